@@ -1,0 +1,9 @@
+pub mod Above
+pub mod Pushed
+pub mod Changes
+pub mod Longest
+pub mod Leaves
+pub mod Lookup
+pub mod More
+pub mod Shapes
+pub mod Least

@@ -1,0 +1,69 @@
+-- The laws once more, in the words of `Law` and `Graph`. Assumes nothing.
+use mathlib.Core.Path.{_≡_, refl, sym, _∙_}
+use mathlib.Core.Logic.{_↔_}
+use mathlib.Core.List.{[], _∷_, List·Mem}
+use mathlib.Core.Bool.{true, false}
+use Prim.Native.Nat.{ℕ, zero, suc, _<_, _≤_}
+use native.Mathlib.Omega.{arith}
+use lib.ListN.{length, take, length-take}
+use lib.Seq.{take-take}
+use Rattle.std.specs.declared.option.Option.{Option}
+use Rattle.std.specs.declared.option.Option.the-variants.{Some, None}
+use Rattle.std.proofs.shelf.Tests.{both-ways}
+use Rattle.bits.specs.Lists.{any}
+use Rattle.bits.specs.Rows.{Bits, begins}
+use Rattle.tree.specs.Tree.{Route, Routes, pushed, leaves, matched, longest, hop-of}
+use Rattle.tree.specs.Graph.{Leaf-at}
+use Rattle.tree.specs.Ledger.{Given, looked}
+use Rattle.tree.specs.Law.{Tells}
+use Rattle.tree.specs.Laws.{Is-leaf}
+use Rattle.bits.proofs.Tests.{never, any-none, all-none, only-is}
+use Rattle.tree.proofs.Pushed.{pushed-is}
+use Rattle.tree.proofs.Longest.{Says, says, longest-none}
+use Rattle.tree.proofs.Leaves.{leaf-is}
+
+-- what a lookup answers, in the words of longest match
+pub tells : (g : Given) (rs : Routes) (a : Bits) → Tells rs a (looked g (hop-of (longest rs a)))
+tells g rs a = go (longest rs a) (says rs a)
+  where
+    go : (o : Option Route) → Says rs a o → Tells rs a (looked g (hop-of o))
+    go None k = k
+    go (Some r) k = ∣ (r, k .member, refl, k .matches, k .most) ∣₁
+
+take-begins : (k : ℕ) (q : Bits) → begins (take k q) q ≡ true
+take-begins zero q = refl
+take-begins (suc k) q = let ih = take-begins k in grind arith
+
+begins-take : (p q : Bits) → begins p q ≡ true → p ≡ take (length p) q
+begins-take [] q h = refl
+begins-take (b ∷ p) q h = let ih = begins-take p in grind arith
+
+-- the bits that lead to a leaf
+pub leaf-at : (rs : Routes) (a : Bits) (d : ℕ) → Leaf-at rs a d ↔ ((d ≤ length a) × List·Mem (take d a) (leaves (pushed rs) []))
+leaf-at rs a d = (λ l. (l .within, leaf-is (pushed rs) (take d a) .1 (forth l)), λ h. back (h .0) (leaf-is (pushed rs) (take d a) .0 (h .1)))
+  where
+    forth : Leaf-at rs a d → Is-leaf (pushed rs) (take d a)
+    forth l = record {
+      ends = pushed-is rs (take d a) ∙ l .ends;
+      before = λ p h s.
+          let short : length p < d = omega (arith, simp length-take at s) in
+          let front : p ≡ take (length p) a = begins-take p (take d a) h ∙ take-take (length p) d a (omega arith) in
+          rw front (pushed-is rs _ ∙ l .before (length p) short);
+    }
+
+    back : d ≤ length a → Is-leaf (pushed rs) (take d a) → Leaf-at rs a d
+    back w l = record {
+      within = w;
+      ends = sym (pushed-is rs (take d a)) ∙ l .ends;
+      before = λ k s. sym (pushed-is rs (take k a)) ∙ l .before (take k a) (rw (take-take k d a (omega arith)) at (take-begins k (take d a))) (simp length-take (omega arith));
+    }
+
+-- the matched leaves are the leaves with a longest match
+pub matched-is : (rs : Routes) (q : Bits) → List·Mem q (matched rs) ↔ (List·Mem q (leaves (pushed rs) []) × (any (λ r. begins (r .at) q) rs ≡ true))
+matched-is rs q = only-is (λ k. any (λ r. begins (r .at) k) rs) (leaves (pushed rs) []) q
+
+pub unmatched-is : (rs : Routes) (q : Bits) → (longest rs q ≡ None) ↔ (any (λ r. begins (r .at) q) rs ≡ false)
+unmatched-is rs q = (
+  λ e. all-none _ rs (λ s m. never _ (longest-none rs q .0 e s m)),
+  λ h. longest-none rs q .1 (λ s m. both-ways _ (any-none _ rs h s m)),
+)
