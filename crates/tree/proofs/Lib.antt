@@ -7,3 +7,4 @@ pub mod Lookup
 pub mod More
 pub mod Shapes
 pub mod Least
+pub mod Worked

@@ -14,7 +14,7 @@ use Rattle.bits.specs.Lists.{any}
 use Rattle.bits.specs.Rows.{Bits, begins}
 use Rattle.tree.specs.Tree.{Route, Routes, pushed, leaves, matched, longest, hop-of}
 use Rattle.tree.specs.Graph.{Leaf-at}
-use Rattle.tree.specs.Ledger.{Given, looked}
+use Rattle.tree.specs.Ledger.{looked}
 use Rattle.tree.specs.Law.{Tells}
 use Rattle.tree.specs.Laws.{Is-leaf}
 use Rattle.bits.proofs.Tests.{never, any-none, all-none, only-is}
@@ -23,10 +23,10 @@ use Rattle.tree.proofs.Longest.{Says, says, longest-none}
 use Rattle.tree.proofs.Leaves.{leaf-is}
 
 -- what a lookup answers, in the words of longest match
-pub tells : (g : Given) (rs : Routes) (a : Bits) → Tells rs a (looked g (hop-of (longest rs a)))
-tells g rs a = go (longest rs a) (says rs a)
+pub tells : (rs : Routes) (a : Bits) → Tells rs a (looked (hop-of (longest rs a)))
+tells rs a = go (longest rs a) (says rs a)
   where
-    go : (o : Option Route) → Says rs a o → Tells rs a (looked g (hop-of o))
+    go : (o : Option Route) → Says rs a o → Tells rs a (looked (hop-of o))
     go None k = k
     go (Some r) k = ∣ (r, k .member, refl, k .matches, k .most) ∣₁
 
