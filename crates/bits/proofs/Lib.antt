@@ -1,2 +1,4 @@
 pub mod Tests
 pub mod Sets
+pub mod Members
+pub mod Begins

@@ -1,8 +1,10 @@
 pub mod Above
 pub mod Pushed
+pub mod Prefixes
+pub mod Leaves
+pub mod Nodes
 pub mod Changes
 pub mod Longest
-pub mod Leaves
 pub mod Lookup
 pub mod More
 pub mod Shapes

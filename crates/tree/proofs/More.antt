@@ -12,15 +12,15 @@ use Rattle.std.specs.declared.option.Option.the-variants.{Some, None}
 use Rattle.std.proofs.shelf.Tests.{both-ways}
 use Rattle.bits.specs.Lists.{any}
 use Rattle.bits.specs.Rows.{Bits, begins}
-use Rattle.tree.specs.Tree.{Route, Routes, pushed, leaves, matched, longest, hop-of}
+use Rattle.tree.specs.Tree.{Route, Routes, pushed, leaves, matches, matched, longest, hop-of}
 use Rattle.tree.specs.Graph.{Leaf-at}
 use Rattle.tree.specs.Ledger.{looked}
 use Rattle.tree.specs.Law.{Tells}
-use Rattle.tree.specs.Laws.{Is-leaf}
 use Rattle.bits.proofs.Tests.{never, any-none, all-none, only-is}
+use Rattle.bits.proofs.Begins.{take-begins, begins-take}
 use Rattle.tree.proofs.Pushed.{pushed-is}
 use Rattle.tree.proofs.Longest.{Says, says, longest-none}
-use Rattle.tree.proofs.Leaves.{leaf-is}
+use Rattle.tree.proofs.Leaves.{Is-leaf, leaf-is}
 
 -- what a lookup answers, in the words of longest match
 pub tells : (rs : Routes) (a : Bits) → Tells rs a (looked (hop-of (longest rs a)))
@@ -28,15 +28,7 @@ tells rs a = go (longest rs a) (says rs a)
   where
     go : (o : Option Route) → Says rs a o → Tells rs a (looked (hop-of o))
     go None k = k
-    go (Some r) k = ∣ (r, k .member, refl, k .matches, k .most) ∣₁
-
-take-begins : (k : ℕ) (q : Bits) → begins (take k q) q ≡ true
-take-begins zero q = refl
-take-begins (suc k) q = let ih = take-begins k in grind arith
-
-begins-take : (p q : Bits) → begins p q ≡ true → p ≡ take (length p) q
-begins-take [] q h = refl
-begins-take (b ∷ p) q h = let ih = begins-take p in grind arith
+    go (Some r) k = ∣ (r, k .member, refl, k .front, k .most) ∣₁
 
 -- the bits that lead to a leaf
 pub leaf-at : (rs : Routes) (a : Bits) (d : ℕ) → Leaf-at rs a d ↔ ((d ≤ length a) × List·Mem (take d a) (leaves (pushed rs) []))
@@ -59,10 +51,10 @@ leaf-at rs a d = (λ l. (l .within, leaf-is (pushed rs) (take d a) .1 (forth l))
     }
 
 -- the matched leaves are the leaves with a longest match
-pub matched-is : (rs : Routes) (q : Bits) → List·Mem q (matched rs) ↔ (List·Mem q (leaves (pushed rs) []) × (any (λ r. begins (r .at) q) rs ≡ true))
-matched-is rs q = only-is (λ k. any (λ r. begins (r .at) k) rs) (leaves (pushed rs) []) q
+pub matched-is : (rs : Routes) (q : Bits) → List·Mem q (matched rs) ↔ (List·Mem q (leaves (pushed rs) []) × (matches rs q ≡ true))
+matched-is rs q = only-is (matches rs) (leaves (pushed rs) []) q
 
-pub unmatched-is : (rs : Routes) (q : Bits) → (longest rs q ≡ None) ↔ (any (λ r. begins (r .at) q) rs ≡ false)
+pub unmatched-is : (rs : Routes) (q : Bits) → (longest rs q ≡ None) ↔ (matches rs q ≡ false)
 unmatched-is rs q = (
   λ e. all-none _ rs (λ s m. never _ (longest-none rs q .0 e s m)),
   λ h. longest-none rs q .1 (λ s m. both-ways _ (any-none _ rs h s m)),

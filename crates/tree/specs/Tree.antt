@@ -1,7 +1,8 @@
 -- The pushed tree of a list of routes: its nodes, its leaves, its shapes, and the longest match. Assumes nothing.
 --   Route             a prefix's bits and a hop
 --   Routes            the standing routes, in a list
---   branching rs q    some route's prefix is longer than the node q and begins with it
+--   above q p         the row p is longer than q and begins with it
+--   branching rs q    the node q is above some route's prefix
 --   Shape             the tree below a node, with its 0 side and its 1 side told apart
 --   alike s t         the shapes are equal, as a test
 --   forks-at t q      the tree has a node of the bits q, and it branches
@@ -34,8 +35,11 @@ pub record Route : Type 0 where
 abbrev pub Routes : Type 0
 Routes = List Route
 
+abbrev pub above : Bits → Bits → Bool
+above q p = ltb (length q) (length p) && begins q p
+
 abbrev pub branching : Routes → Bits → Bool
-branching rs q = any (λ r. ltb (length q) (length (r .at)) && begins q (r .at)) rs
+branching rs q = any (λ r. above q (r .at)) rs
 
 pub data Shape : Type 0 where
   leaf : Shape
