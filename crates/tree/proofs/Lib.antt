@@ -6,7 +6,9 @@ pub mod Nodes
 pub mod Changes
 pub mod Longest
 pub mod Lookup
+pub mod Matched
 pub mod More
 pub mod Shapes
 pub mod Least
+pub mod Walks
 pub mod Worked

@@ -9,17 +9,14 @@ use lib.ListN.{length, take, length-take}
 use lib.Seq.{take-take}
 use Rattle.std.specs.declared.option.Option.{Option}
 use Rattle.std.specs.declared.option.Option.the-variants.{Some, None}
-use Rattle.std.proofs.shelf.Tests.{both-ways}
-use Rattle.bits.specs.Lists.{any}
 use Rattle.bits.specs.Rows.{Bits, begins}
-use Rattle.tree.specs.Tree.{Route, Routes, pushed, leaves, matches, matched, longest, hop-of}
+use Rattle.tree.specs.Tree.{Route, Routes, pushed, leaves, longest, hop-of}
 use Rattle.tree.specs.Graph.{Leaf-at}
 use Rattle.tree.specs.Ledger.{looked}
 use Rattle.tree.specs.Law.{Tells}
-use Rattle.bits.proofs.Tests.{never, any-none, all-none, only-is}
 use Rattle.bits.proofs.Begins.{take-begins, begins-take}
 use Rattle.tree.proofs.Pushed.{pushed-is}
-use Rattle.tree.proofs.Longest.{Says, says, longest-none}
+use Rattle.tree.proofs.Longest.{Says, says}
 use Rattle.tree.proofs.Leaves.{Is-leaf, leaf-is}
 
 -- what a lookup answers, in the words of longest match
@@ -49,13 +46,3 @@ leaf-at rs a d = (λ l. (l .within, leaf-is (pushed rs) (take d a) .1 (forth l))
       ends = sym (pushed-is rs (take d a)) ∙ l .ends;
       before = λ k s. sym (pushed-is rs (take k a)) ∙ l .before (take k a) (rw (take-take k d a (omega arith)) at (take-begins k (take d a))) (simp length-take (omega arith));
     }
-
--- the matched leaves are the leaves with a longest match
-pub matched-is : (rs : Routes) (q : Bits) → List·Mem q (matched rs) ↔ (List·Mem q (leaves (pushed rs) []) × (matches rs q ≡ true))
-matched-is rs q = only-is (matches rs) (leaves (pushed rs) []) q
-
-pub unmatched-is : (rs : Routes) (q : Bits) → (longest rs q ≡ None) ↔ (matches rs q ≡ false)
-unmatched-is rs q = (
-  λ e. all-none _ rs (λ s m. never _ (longest-none rs q .0 e s m)),
-  λ h. longest-none rs q .1 (λ s m. both-ways _ (any-none _ rs h s m)),
-)

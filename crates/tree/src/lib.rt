@@ -1,5 +1,7 @@
 // The laws of the pushed tree, of its leaves and shapes, of the ledger and of other graphs, as contracts: so a check asks for their proofs.
 ghost use Rattle.tree.specs.Example.{Example};
+ghost use Rattle.tree.specs.GraphLaws.{Graph-laws};
+ghost use Rattle.tree.specs.LeafLaws.{Leaf-laws, Match-laws};
 ghost use Rattle.tree.specs.TreeLaws.{Tree-laws, Change-laws};
 
 pub fn worked_example_stands() -> u8
@@ -12,6 +14,21 @@ pub fn worked_example_stands() -> u8
 pub fn tree_laws_stand() -> u8
     ensures tree { λ _. ⌜ Tree-laws ⌝ }
     ensures change { λ _. ⌜ Change-laws ⌝ }
+{
+    0
+}
+
+// Each address has one leaf, and the leaf's hop is that of the address's longest match.
+pub fn leaf_laws_stand() -> u8
+    ensures leaf { λ _. ⌜ Leaf-laws ⌝ }
+    ensures found { λ _. ⌜ Match-laws ⌝ }
+{
+    0
+}
+
+// No other graph has fewer vertices than there are different branching shapes.
+pub fn graph_laws_stand() -> u8
+    ensures { λ _. ⌜ Graph-laws ⌝ }
 {
     0
 }
