@@ -37,6 +37,14 @@ module _ {A : Type 0} where
   length-only f [] = refl
   length-only f (x ∷ xs) = let ih = length-only f xs in grind arith
 
+  pub count-most : (f : A → Bool) (xs : List A) → count f xs ≤ length xs
+  count-most f [] = omega arith
+  count-most f (x ∷ xs) = let ih = count-most f xs in grind arith
+
+-- membership, as a test
+pub has-member : {A : Type 0} {t : A → A → Bool} → Equality t → (x : A) (xs : List A) → List·Mem x xs ↔ (any (t x) xs ≡ true)
+has-member eq x xs = (λ m. ∥∥₁-elim m (Bool-set _ _) (any-of-member eq), λ h. ∣ member-of-any eq xs h ∣₁)
+
 pub same-self : (p : Bits) → same p p ≡ true
 same-self [] = refl
 same-self (true ∷ p) = same-self p
@@ -49,6 +57,5 @@ same-swap (b ∷ p) q = let ih = same-swap p in grind arith
 pub same-equality : Equality same
 same-equality = record { sound = λ {x} {y} h. same-is x y h; self = same-self }
 
--- whether a list has a row, as a test
 pub has-row : (q : Bits) (xs : List Bits) → List·Mem q xs ↔ (any (same q) xs ≡ true)
-has-row q xs = (λ m. ∥∥₁-elim m (Bool-set _ _) (any-of-member same-equality), λ h. ∣ member-of-any same-equality xs h ∣₁)
+has-row = has-member same-equality

@@ -9,6 +9,7 @@ pub mod Lookup
 pub mod Matched
 pub mod More
 pub mod Shapes
+pub mod Paths
 pub mod Least
 pub mod Walks
 pub mod Worked

@@ -2,6 +2,7 @@
 ghost use Rattle.tree.specs.Example.{Example};
 ghost use Rattle.tree.specs.GraphLaws.{Graph-laws};
 ghost use Rattle.tree.specs.LeafLaws.{Leaf-laws, Match-laws};
+ghost use Rattle.tree.specs.ShapeLaws.{Shape-laws};
 ghost use Rattle.tree.specs.TreeLaws.{Tree-laws, Change-laws};
 
 pub fn worked_example_stands() -> u8
@@ -29,6 +30,13 @@ pub fn leaf_laws_stand() -> u8
 // No other graph has fewer vertices than there are different branching shapes.
 pub fn graph_laws_stand() -> u8
     ensures { λ _. ⌜ Graph-laws ⌝ }
+{
+    0
+}
+
+// The branching shapes that a change brings lie on the path to its prefix.
+pub fn shape_laws_stand() -> u8
+    ensures { λ _. ⌜ Shape-laws ⌝ }
 {
     0
 }
