@@ -54,3 +54,8 @@ begins-rest (b ∷ q) p h = let ih = begins-rest q in grind arith
 pub drop-join : (q w : Bits) → drop (length q) (q ++ w) ≡ w
 drop-join [] w = refl
 drop-join (b ∷ q) w = drop-join q w
+
+pub begins-cancel : (q p u : Bits) → begins (q ++ p) (q ++ u) ≡ begins p u
+begins-cancel [] p u = refl
+begins-cancel (true ∷ q) p u = begins-cancel q p u
+begins-cancel (false ∷ q) p u = begins-cancel q p u

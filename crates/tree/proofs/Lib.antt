@@ -10,6 +10,10 @@ pub mod Matched
 pub mod More
 pub mod Shapes
 pub mod Paths
+pub mod Covers
+pub mod Twigs
+pub mod Hops
+pub mod Tally
 pub mod Least
 pub mod Walks
 pub mod Worked

@@ -1,6 +1,7 @@
 // The laws of the pushed tree, of its leaves and shapes, of the ledger and of other graphs, as contracts: so a check asks for their proofs.
 ghost use Rattle.tree.specs.Example.{Example};
 ghost use Rattle.tree.specs.GraphLaws.{Graph-laws};
+ghost use Rattle.tree.specs.HopLaws.{Hop-laws};
 ghost use Rattle.tree.specs.LeafLaws.{Leaf-laws, Match-laws};
 ghost use Rattle.tree.specs.ShapeLaws.{Shape-laws};
 ghost use Rattle.tree.specs.TreeLaws.{Tree-laws, Change-laws};
@@ -37,6 +38,13 @@ pub fn graph_laws_stand() -> u8
 // The branching shapes that a change brings lie on the path to its prefix.
 pub fn shape_laws_stand() -> u8
     ensures { λ _. ⌜ Shape-laws ⌝ }
+{
+    0
+}
+
+// What entering, re-hopping and striking a route do to each leaf's hop.
+pub fn hop_laws_stand() -> u8
+    ensures { λ _. ⌜ Hop-laws ⌝ }
 {
     0
 }
