@@ -14,6 +14,7 @@ pub mod Covers
 pub mod Twigs
 pub mod Hops
 pub mod Tally
+pub mod Counts
 pub mod Least
 pub mod Walks
 pub mod Worked

@@ -1,4 +1,5 @@
 // The laws of the pushed tree, of its leaves and shapes, of the ledger and of other graphs, as contracts: so a check asks for their proofs.
+ghost use Rattle.tree.specs.CountLaws.{Count-laws};
 ghost use Rattle.tree.specs.Example.{Example};
 ghost use Rattle.tree.specs.GraphLaws.{Graph-laws};
 ghost use Rattle.tree.specs.HopLaws.{Hop-laws};
@@ -45,6 +46,13 @@ pub fn shape_laws_stand() -> u8
 // What entering, re-hopping and striking a route do to each leaf's hop.
 pub fn hop_laws_stand() -> u8
     ensures { λ _. ⌜ Hop-laws ⌝ }
+{
+    0
+}
+
+// How many matched leaves a change leaves.
+pub fn count_laws_stand() -> u8
+    ensures { λ _. ⌜ Count-laws ⌝ }
 {
     0
 }

@@ -1,0 +1,14 @@
+use Rattle.tree.proofs.count_laws_stand.Needs as need
+use Rattle.tree.proofs.Counts.{enters-node, rehops, below-unmatched, below-matched, strikes-node, folds-unmatched, folds-matched, never-more}
+
+pub returns : need.returns
+returns c = record {
+  enters-node = enters-node;
+  rehops = rehops;
+  below-unmatched = below-unmatched;
+  below-matched = below-matched;
+  strikes-node = strikes-node;
+  folds-unmatched = folds-unmatched;
+  folds-matched = folds-matched;
+  never-more = never-more;
+}
