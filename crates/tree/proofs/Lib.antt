@@ -17,4 +17,8 @@ pub mod Tally
 pub mod Counts
 pub mod Least
 pub mod Walks
+pub mod Stores
+pub mod Checks
+pub mod Sounds
+pub mod Runs
 pub mod Worked

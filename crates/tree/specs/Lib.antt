@@ -11,3 +11,4 @@ pub mod CountLaws
 pub mod ShapeLaws
 pub mod GraphLaws
 pub mod LedgerLaws
+pub mod StoreLaws

@@ -4,7 +4,9 @@ ghost use Rattle.tree.specs.Example.{Example};
 ghost use Rattle.tree.specs.GraphLaws.{Graph-laws};
 ghost use Rattle.tree.specs.HopLaws.{Hop-laws};
 ghost use Rattle.tree.specs.LeafLaws.{Leaf-laws, Match-laws};
+ghost use Rattle.tree.specs.LedgerLaws.{Ledger-laws, Run-laws};
 ghost use Rattle.tree.specs.ShapeLaws.{Shape-laws};
+ghost use Rattle.tree.specs.StoreLaws.{Store-laws};
 ghost use Rattle.tree.specs.TreeLaws.{Tree-laws, Change-laws};
 
 pub fn worked_example_stands() -> u8
@@ -53,6 +55,15 @@ pub fn hop_laws_stand() -> u8
 // How many matched leaves a change leaves.
 pub fn count_laws_stand() -> u8
     ensures { λ _. ⌜ Count-laws ⌝ }
+{
+    0
+}
+
+// The ledger stays sound, one more call keeps the law over runs, and what the two stores hold.
+pub fn ledger_laws_stand() -> u8
+    ensures ledger { λ _. ⌜ Ledger-laws ⌝ }
+    ensures run { λ _. ⌜ Run-laws ⌝ }
+    ensures store { λ _. ⌜ Store-laws ⌝ }
 {
     0
 }

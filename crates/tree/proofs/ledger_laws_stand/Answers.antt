@@ -1,0 +1,31 @@
+use mathlib.Core.List.{[]}
+use Rattle.tree.proofs.ledger_laws_stand.Needs as need
+use Rattle.tree.proofs.Sounds.{starts-sound, turn-sound, always-sound, full-exactly, granted, refusals-keep, one-more, as-many, one-less}
+use Rattle.tree.proofs.Runs.{law-holds, law-starts, law-steps}
+use Rattle.tree.proofs.Stores.{routes-told, leaves-told, routes-once, routes-held, leaves-held, entered-hop, struck-hop, state-holds}
+
+pub returns : need.returns
+returns c = record {
+  ledger = record {
+    starts-sound = starts-sound;
+    stays-sound = λ g rs call sound. turn-sound g rs sound call;
+    always-sound = λ g calls. always-sound g [] calls (starts-sound g);
+    full-exactly = λ g rs call sound. full-exactly g rs sound call;
+    granted = λ g rs call sound. granted g rs sound call;
+    refusals-keep = refusals-keep;
+    one-more = one-more;
+    as-many = as-many;
+    one-less = one-less;
+  };
+  run = record { law-holds = λ g calls given graph routes leaves answered. law-holds g calls given answered graph routes leaves; law-starts = law-starts; law-steps = law-steps };
+  store = record {
+    routes-told = routes-told;
+    leaves-told = leaves-told;
+    routes-once = routes-once;
+    routes-held = routes-held;
+    leaves-held = leaves-held;
+    entered-hop = entered-hop;
+    struck-hop = struck-hop;
+    state-holds = state-holds;
+  };
+}
