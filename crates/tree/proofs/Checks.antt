@@ -67,17 +67,19 @@ module _ (g : Given) (rs : Routes) (a : Bits) (n : ℕ) where
     pub announce-granted : announce-checks g rs a n h ≡ None → Passed-announce g rs a n h × ((not (stands rs p) && ltb vertex-slots (together rs after)) ≡ false)
     announce-granted e =
         let (c1, c2, c3, c4, c5, c6) = six (ltb (g .width) n) (any-one (drop n a)) (eqb h 0 || ltb greatest-hop h) (not (stands rs p) && eqb (length rs) (g .route-limit))
-          (not (stands rs p) && ltb (g .leaf-limit) (length (matched after))) (not (stands rs p) && ltb vertex-slots (together rs after)) e in
-        let hop = or-parts (eqb h 0) (ltb greatest-hop h) (c3) in
-        (record {
-          prefix = record { short = ltb-false _ _ (c1); clear = c2 };
-          hop-least = (let z = hop .0 in grind (arith, tells));
-          hop-most = ltb-false _ _ (hop .1);
-          room = λ s. record {
-            routes = (let z = c4 in let t : eqb (length rs) (g .route-limit) ≡ false = grind arith in grind (arith, tells));
-            leaves = (let z = c5 in let t : ltb (g .leaf-limit) (length (matched after)) ≡ false = grind arith in ltb-false _ _ t)
-          }
-        }, c6)
+        (not (stands rs p) && ltb (g .leaf-limit) (length (matched after))) (not (stands rs p) && ltb vertex-slots (together rs after)) e in
+        let hop = or-parts (eqb h 0) (ltb greatest-hop h) (c3) in (
+          record {
+            prefix = record { short = ltb-false _ _ (c1); clear = c2 };
+            hop-least = (let z = hop .0 in grind (arith, tells));
+            hop-most = ltb-false _ _ (hop .1);
+            room = λ s. record {
+              routes = (let z = c4 in let t : eqb (length rs) (g .route-limit) ≡ false = grind arith in grind (arith, tells));
+              leaves = (let z = c5 in let t : ltb (g .leaf-limit) (length (matched after)) ≡ false = grind arith in ltb-false _ _ t);
+            };
+          },
+          c6,
+        )
 
   pub withdraw-last : Passed-withdraw g rs a n → withdraw-checks g rs a n ≡ last (ltb vertex-slots (together rs (struck rs p)))
   withdraw-last ok = three (ltb (g .width) n) (any-one (drop n a)) (not (stands rs p)) _ (le-ltb _ _ (ok .prefix .short)) (ok .prefix .clear) (let k = ok .known in grind arith)

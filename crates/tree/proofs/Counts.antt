@@ -126,7 +126,7 @@ over-self (false ∷ p) = over-self p
 pub reach-struck : (rs : Routes) (p : Bits) → reach (struck rs p) p ≡ reach rs p
 reach-struck rs p =
     painted-like (stands (struck rs p)) (stands rs) (shape-at (pushed (struck rs p)) p) p
-      (λ v o. let k = stands-struck rs p v in let n : same p v ≡ false = never _ (λ e. both-ways _ (over-self p) (rw (← same-is p v e) at o)) in grind arith)
+    (λ v o. let k = stands-struck rs p v in let n : same p v ≡ false = never _ (λ e. both-ways _ (over-self p) (rw (← same-is p v e) at o)) in grind arith)
     ∙ ap (λ t. painted (stands rs) t p) (striking-beside rs p p (above-is p p ∙ over-self p) .1)
 
 pub strikes-node : (rs : Routes) (p : Bits) → stands rs p ≡ true → has-node (pushed (struck rs p)) p ≡ true → held rs ≡ held (struck rs p) + count (unmatched (struck rs p)) (reach rs p)

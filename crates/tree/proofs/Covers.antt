@@ -77,8 +77,8 @@ painted-is rs (fork a b) p q =
     let right = painted-is rs b (p ++ (true ∷ [])) q in
     rw (any-join, any-join, any-unless, any-unless, left, right)
     (joins (any (same q) (leaves a (p ++ (false ∷ [])))) (any (same q) (leaves b (p ++ (true ∷ [])))) (stands rs (p ++ (false ∷ []))) (stands rs (p ++ (true ∷ [])))
-      (covered rs (p ++ (false ∷ [])) q) (covered rs (p ++ (true ∷ [])) q) (covered rs p q)
-      (λ h. covered-step rs p q false (leaves-begin a _ q h)) (λ h. covered-step rs p q true (leaves-begin b _ q h)))
+    (covered rs (p ++ (false ∷ [])) q) (covered rs (p ++ (true ∷ [])) q) (covered rs p q)
+    (λ h. covered-step rs p q false (leaves-begin a _ q h)) (λ h. covered-step rs p q true (leaves-begin b _ q h)))
 
 -- a match longer than p
 abbrev beyond : Bits → Option Route → Bool
@@ -144,7 +144,7 @@ struck-longest (r ∷ rs) p q h = go (cases-bool (same (r .at) p)) (cases-bool (
         let l : length p ≤ length (r .at) = omega (arith, ltb-true (length p) (length (r .at)) (parts .0)) in
         rw (struck-keep r rs p s, parts .1)
         (longer-first p r (longest (struck rs p) q) l (beyond-longest (struck rs p) p q ∙ struck-covered rs p q ∙ c)
-          ∙ sym (longer-first p r (longest rs q) l (beyond-longest rs p q ∙ c)))
+        ∙ sym (longer-first p r (longest rs q) l (beyond-longest rs p q ∙ c)))
 
 pub struck-elsewhere : (rs : Routes) (p q : Bits) → begins p q ≡ false → longest (struck rs p) q ≡ longest rs q
 struck-elsewhere rs p q b = struck-longest rs p q (grind arith)

@@ -46,7 +46,7 @@ module _ (rs : Routes) (p : Bits) (node : has-node (pushed rs) p ≡ true) where
       record {
         is-leaf = leaf-ends (pushed rs) u .1 (ap (ends-at (pushed rs)) (begins-rest p u (under .0)) ∙ ends-below (pushed rs) p (drop (length p) u) node ∙ under .1);
         front = under .0;
-        free = (let k = parts .1 in grind arith)
+        free = (let k = parts .1 in grind arith);
       }
 
   -- any other leaf is not below p or is covered
@@ -67,7 +67,7 @@ module _ (rs : Routes) (p : Bits) (node : has-node (pushed rs) p ≡ true) where
     stays = λ u l out. elim (cases-bool (begins p u)) [
       | inl b ↦ ap hop-of (entered-under rs p h u b (spared u l out b))
       | inr b ↦ ap hop-of (entered-elsewhere rs p h u b)
-    ]
+    ];
   }
 
 pub rehops : (rs : Routes) (p : Bits) (h : ℕ) → stands rs p ≡ true → Repaints rs (entered rs p h) p (Some h)
@@ -83,7 +83,7 @@ strikes-node rs p s after =
       stays = λ u l out. elim (cases-bool (begins p u)) [
         | inl b ↦ ap hop-of (struck-under rs p u (spared rs p node u l out b))
         | inr b ↦ ap hop-of (struck-elsewhere rs p u b)
-      ]
+      ];
     }
 
 -- the tree t, grown from its leaf q to p below it
@@ -178,8 +178,8 @@ module _ (rs : Routes) (q p : Bits) (h : ℕ) (is-leaf : Leaf rs q) (o : above q
     );
     painted = ap hop-of (entered-here rs p h p (begins-self p) (covered-none rs p));
     beside = λ u m n. (let e = listed-below _ q u .0 m in
-      ap hop-of (entered-elsewhere rs p h u (other-twig t q p l o′ u e n) ∙ longest-by-leaf rs q is-leaf u (and-parts (begins q u) _ e .0)));
-    stays = λ u m n. ap hop-of (entered-elsewhere rs p h u (other-leaf t q p l o′ u (leaf-ends t u .0 m) n))
+        ap hop-of (entered-elsewhere rs p h u (other-twig t q p l o′ u e n) ∙ longest-by-leaf rs q is-leaf u (and-parts (begins q u) _ e .0)));
+    stays = λ u m n. ap hop-of (entered-elsewhere rs p h u (other-leaf t q p l o′ u (leaf-ends t u .0 m) n));
   }
 
 -- to strike p, so that the tree folds back to the leaf q
@@ -209,9 +209,9 @@ module _ (rs : Routes) (q p : Bits) (stood : stands rs p ≡ true) (is-leaf : Le
     );
     painted = ap hop-of (sym (longest-by-leaf ss q is-leaf p (front s q p k v)));
     beside = λ u m n. (let e = listed-below _ q u .0 m in
-      ap hop-of (sym (longest-by-leaf ss q is-leaf u (and-parts (begins q u) _ e .0)) ∙ struck-elsewhere rs p u (other-twig s q p k v u e n)));
+        ap hop-of (sym (longest-by-leaf ss q is-leaf u (and-parts (begins q u) _ e .0)) ∙ struck-elsewhere rs p u (other-twig s q p k v u e n)));
     stays = λ u m n. elim (split s q p k v u (old-leaf-ends u .0 m)) [
       | inl (e, other) ↦ ap hop-of (struck-elsewhere rs p u (other-leaf s q p k v u e other))
       | inr j ↦ absurd (n (listed-below _ q u .1 j))
-    ]
+    ];
   }

@@ -149,7 +149,7 @@ after-within rs ss = different-mono alike-equality _ _ (λ s h. let a = any-join
 pub nothing-new : (rs ss : Routes) → pushed ss ≡ pushed rs → new-shapes rs ss ≡ 0
 nothing-new rs ss e =
     let both : together rs ss ≡ vertices rs = rw e (different-by-members alike-equality _ _
-      (λ s h. let a = any-join (alike s) (shapes (pushed rs)) (shapes (pushed rs)) in grind arith) (λ s h. let a = any-join (alike s) (shapes (pushed rs)) (shapes (pushed rs)) in grind arith)) in
+    (λ s h. let a = any-join (alike s) (shapes (pushed rs)) (shapes (pushed rs)) in grind arith) (λ s h. let a = any-join (alike s) (shapes (pushed rs)) (shapes (pushed rs)) in grind arith)) in
     omega (arith, together-is rs ss)
 
 pub rehopping : (rs : Routes) (p : Bits) (h : ℕ) → stands rs p ≡ true → new-shapes rs (entered rs p h) ≡ 0

@@ -41,7 +41,7 @@ module _ (g : Given) (calls : List Call) (given : List Answer) (answered : given
         subst (λ y. (y ≡ refused VerticesFull) ↔ (vertex-slots < together (standing g calls k) (asked (standing g calls k) c))) (at-turn k c x at)
         (full-exactly g (standing g calls k) (always-sound g [] (take k calls) (starts-sound g)) c ok);
     state = state;
-    counted = ap (counts (length (after-calls g [] calls)) (length (matched (after-calls g [] calls)))) (sym (state .one-for-each .number))
+    counted = ap (counts (length (after-calls g [] calls)) (length (matched (after-calls g [] calls)))) (sym (state .one-for-each .number));
   }
 
 pub law-starts : (g : Given) (graph : Graph) (routes leaves : Map) → State (g .width) [] graph routes leaves → Law g [] [] graph routes leaves

@@ -24,7 +24,6 @@ alike-sound (fork a b) (fork c d) h =
 pub alike-equality : Equality alike
 alike-equality = record { sound = λ {x} {y} h. alike-sound x y h; self = alike-self }
 
-
 pub alike-is : (s t : Shape) → (alike s t ≡ true) ↔ (s ≡ t)
 alike-is s t = (alike-sound s t, λ e. rw (← e) (alike-self s))
 

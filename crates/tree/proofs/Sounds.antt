@@ -69,8 +69,12 @@ entered-each one rs p h here all = forall-mem-cons one .1 (here, struck-each rs 
 
 pub starts-sound : (g : Given) → Sound g []
 starts-sound g = record {
-  once = tt; short = λ r m. absurd (not-mem-nil m); hops = λ r m. absurd (not-mem-nil m);
-  routes-fit = omega arith; leaves-fit = omega arith; vertices-fit = omega arith
+  once = tt;
+  short = λ r m. absurd (not-mem-nil m);
+  hops = λ r m. absurd (not-mem-nil m);
+  routes-fit = omega arith;
+  leaves-fit = omega arith;
+  vertices-fit = omega arith;
 }
 
 module _ (g : Given) (rs : Routes) (sound : Sound g rs) where
@@ -100,7 +104,7 @@ module _ (g : Given) (rs : Routes) (sound : Sound g rs) where
           | inl s ↦ omega (arith, rehops rs p h s, sound .leaves-fit)
           | inr s ↦ ok .room s .leaves
         ];
-        vertices-fit = omega (arith, room-for p h full, after-within rs (entered rs p h))
+        vertices-fit = omega (arith, room-for p h full, after-within rs (entered rs p h));
       }
 
   strikes-sound : (a : Bits) (n : ℕ) → withdraw-checks g rs a n ≡ None → Sound g (struck rs (take n a))
@@ -113,7 +117,7 @@ module _ (g : Given) (rs : Routes) (sound : Sound g rs) where
         hops = struck-each rs p (sound .hops);
         routes-fit = omega (arith, one-less rs p (sound .once) (ok .known), sound .routes-fit);
         leaves-fit = omega (arith, never-more rs p, sound .leaves-fit);
-        vertices-fit = omega (arith, ltb-false _ _ full, after-within rs (struck rs p))
+        vertices-fit = omega (arith, ltb-false _ _ full, after-within rs (struck rs p));
       }
 
   decided-sound : (o : Option Refusal) (after : Routes) → (o ≡ None → Sound g after) → Sound g (decided o rs after .0)

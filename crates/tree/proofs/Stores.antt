@@ -137,5 +137,5 @@ state-holds W rs graph routes leaves short closed reads one told told′ = recor
   closed = closed;
   walks = reads-end-at-leaves W rs short graph reads;
   one-for-each = one;
-  least = λ other c w. (let n = one .number in let l = least W rs other short c w in omega arith)
+  least = λ other c w. (let n = one .number in let l = least W rs other short c w in omega arith);
 }

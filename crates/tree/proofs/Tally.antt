@@ -73,7 +73,7 @@ unfolding painted
 painted-count own f h leaf q = refl
 painted-count own f h (fork a b) q =
     count-join f (unless (own (q ++ (false ∷ []))) (painted own a (q ++ (false ∷ [])))) _
-      ∙ omega (arith, side (q ++ (false ∷ [])) a (painted-count own f h a _), side (q ++ (true ∷ [])) b (painted-count own f h b _), count-join f (leaves a (q ++ (false ∷ []))) (leaves b (q ++ (true ∷ []))))
+    ∙ omega (arith, side (q ++ (false ∷ [])) a (painted-count own f h a _), side (q ++ (true ∷ [])) b (painted-count own f h b _), count-join f (leaves a (q ++ (false ∷ []))) (leaves b (q ++ (true ∷ []))))
   where
     side : (v : Bits) (t : Shape) → count f (painted own t v) ≡ count f (leaves t v) → count f (unless (own v) (painted own t v)) ≡ count f (leaves t v)
     side v t ih = elim (cases-bool (own v)) [

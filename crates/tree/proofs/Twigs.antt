@@ -20,7 +20,7 @@ same-end (b ∷ q) (c ∷ u) = let ih = same-end q u in grind arith
 
 one-down : (a b : Shape) (q u : Bits)
     → ((begins (q ++ (false ∷ [])) u && ends-at a (drop (length (q ++ (false ∷ []))) u)) || (begins (q ++ (true ∷ [])) u && ends-at b (drop (length (q ++ (true ∷ []))) u)))
-      ≡ (begins q u && ends-at (fork a b) (drop (length q) u))
+    ≡ (begins q u && ends-at (fork a b) (drop (length q) u))
 one-down a b [] u = grind arith
 one-down a b (c ∷ q) [] = refl
 one-down a b (true ∷ q) (true ∷ u) = one-down a b q u
@@ -33,9 +33,9 @@ pub leaf-below : (t : Shape) (q u : Bits) → any (same u) (leaves t q) ≡ (beg
 leaf-below leaf q u = let e = same-end q u in grind arith
 leaf-below (fork a b) q u =
     any-join (same u) (leaves a (q ++ (false ∷ []))) (leaves b (q ++ (true ∷ [])))
-      ∙ ap (λ x. x || any (same u) (leaves b (q ++ (true ∷ [])))) (leaf-below a (q ++ (false ∷ [])) u)
-      ∙ ap (λ x. (begins (q ++ (false ∷ [])) u && ends-at a (drop (length (q ++ (false ∷ []))) u)) || x) (leaf-below b (q ++ (true ∷ [])) u)
-      ∙ one-down a b q u
+    ∙ ap (λ x. x || any (same u) (leaves b (q ++ (true ∷ [])))) (leaf-below a (q ++ (false ∷ [])) u)
+    ∙ ap (λ x. (begins (q ++ (false ∷ [])) u && ends-at a (drop (length (q ++ (false ∷ []))) u)) || x) (leaf-below b (q ++ (true ∷ [])) u)
+    ∙ one-down a b q u
 
 pub listed-below : (t : Shape) (q u : Bits) → List·Mem u (leaves t q) ↔ ((begins q u && ends-at t (drop (length q) u)) ≡ true)
 listed-below t q u = (λ m. sym (leaf-below t q u) ∙ has-row u _ .0 m, λ h. has-row u _ .1 (leaf-below t q u ∙ h))

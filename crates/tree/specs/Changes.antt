@@ -37,7 +37,7 @@ unfoldable pub painted : (Bits → Bool) → Shape → Bits → List Bits
 painted own leaf q = q ∷ []
 painted own (fork a b) q =
     unless (own (q ++ (false ∷ []))) (painted own a (q ++ (false ∷ [])))
-      ++ unless (own (q ++ (true ∷ []))) (painted own b (q ++ (true ∷ [])))
+    ++ unless (own (q ++ (true ∷ []))) (painted own b (q ++ (true ∷ [])))
 
 abbrev pub reach : Routes → Bits → List Bits
 reach rs p = painted (stands rs) (shape-at (pushed rs) p) p

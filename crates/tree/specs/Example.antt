@@ -23,11 +23,11 @@ pub record Case : Type 0 where
 -- the routes of the empty prefix, 00, 11, 101 and 110
 abbrev pub five : List Call
 five = announce (address 0x0000_0000) 0 10
-  ∷ announce (address 0x0000_0000) 2 11
-  ∷ announce (address 0xc000_0000) 2 12
-  ∷ announce (address 0xa000_0000) 3 13
-  ∷ announce (address 0xc000_0000) 3 14
-  ∷ []
+    ∷ announce (address 0x0000_0000) 2 11
+    ∷ announce (address 0xc000_0000) 2 12
+    ∷ announce (address 0xa000_0000) 3 13
+    ∷ announce (address 0xc000_0000) 3 14
+    ∷ []
 
 abbrev pub granted : List Answer
 granted = changed 0 ∷ changed 2 ∷ changed 1 ∷ changed 2 ∷ changed 2 ∷ []
@@ -38,16 +38,16 @@ after-five calls expected = record { calls = five ++ calls; expected = granted +
 abbrev pub table : List Case
 table =
     record { calls = lookup (address 0x0000_0000) ∷ count ∷ []; expected = none ∷ counts 0 0 0 ∷ [] }
-  ∷ after-five (count ∷ []) (counts 5 6 3 ∷ [])
-  ∷ after-five (lookup (address 0x4000_0000) ∷ lookup (address 0xdfff_ffff) ∷ []) (hop 10 ∷ hop 14 ∷ [])
-  ∷ after-five (lookup (address 0x0000_0001) ∷ lookup (address 0xa000_0000) ∷ lookup (address 0xe000_0000) ∷ []) (hop 11 ∷ hop 13 ∷ hop 12 ∷ [])
-  ∷ after-five (withdraw (address 0xc000_0000) 3 ∷ count ∷ lookup (address 0xdfff_ffff) ∷ []) (changed 2 ∷ counts 4 5 3 ∷ hop 12 ∷ [])
-  ∷ after-five (announce (address 0xc000_0001) 3 9 ∷ count ∷ []) (refused HostBits ∷ counts 5 6 3 ∷ [])
-  ∷ record { calls = announce (address 0xffff_ffff) 32 1 ∷ count ∷ []; expected = changed 32 ∷ counts 1 1 32 ∷ [] }
-  ∷ record { calls = announce (address 0x0000_0000) 33 1 ∷ count ∷ []; expected = refused Length ∷ counts 0 0 0 ∷ [] }
-  ∷ record { calls = announce (address 0x0000_0000) 0 65535 ∷ lookup (address 0x0000_0000) ∷ []; expected = changed 0 ∷ hop 65535 ∷ [] }
-  ∷ record { calls = announce (address 0x0000_0000) 0 0 ∷ announce (address 0x0000_0000) 0 65536 ∷ count ∷ []; expected = refused Hop ∷ refused Hop ∷ counts 0 0 0 ∷ [] }
-  ∷ []
+    ∷ after-five (count ∷ []) (counts 5 6 3 ∷ [])
+    ∷ after-five (lookup (address 0x4000_0000) ∷ lookup (address 0xdfff_ffff) ∷ []) (hop 10 ∷ hop 14 ∷ [])
+    ∷ after-five (lookup (address 0x0000_0001) ∷ lookup (address 0xa000_0000) ∷ lookup (address 0xe000_0000) ∷ []) (hop 11 ∷ hop 13 ∷ hop 12 ∷ [])
+    ∷ after-five (withdraw (address 0xc000_0000) 3 ∷ count ∷ lookup (address 0xdfff_ffff) ∷ []) (changed 2 ∷ counts 4 5 3 ∷ hop 12 ∷ [])
+    ∷ after-five (announce (address 0xc000_0001) 3 9 ∷ count ∷ []) (refused HostBits ∷ counts 5 6 3 ∷ [])
+    ∷ record { calls = announce (address 0xffff_ffff) 32 1 ∷ count ∷ []; expected = changed 32 ∷ counts 1 1 32 ∷ [] }
+    ∷ record { calls = announce (address 0x0000_0000) 33 1 ∷ count ∷ []; expected = refused Length ∷ counts 0 0 0 ∷ [] }
+    ∷ record { calls = announce (address 0x0000_0000) 0 65535 ∷ lookup (address 0x0000_0000) ∷ []; expected = changed 0 ∷ hop 65535 ∷ [] }
+    ∷ record { calls = announce (address 0x0000_0000) 0 0 ∷ announce (address 0x0000_0000) 0 65536 ∷ count ∷ []; expected = refused Hop ∷ refused Hop ∷ counts 0 0 0 ∷ [] }
+    ∷ []
 
 abbrev pub Example : Type 0
 Example = map (λ c. answers limits [] (c .calls)) table ≡ map (λ c. c .expected) table

@@ -94,15 +94,15 @@ module _ (g : Given) where
       let new : Bool = not (stands rs (take n a)) in
       let after : Routes = entered rs (take n a) h in
       checks (prefix-checks a n ++ (eqb h 0 || ltb greatest-hop h, Hop)
-        ∷ (new && eqb (length rs) (g .route-limit), RoutesFull)
-        ∷ (new && ltb (g .leaf-limit) (length (matched after)), LeavesFull)
-        ∷ (new && ltb vertex-slots (together rs after), VerticesFull) ∷ [])
+      ∷ (new && eqb (length rs) (g .route-limit), RoutesFull)
+      ∷ (new && ltb (g .leaf-limit) (length (matched after)), LeavesFull)
+      ∷ (new && ltb vertex-slots (together rs after), VerticesFull) ∷ [])
 
   abbrev pub withdraw-checks : Routes → Bits → ℕ → Option Refusal
   withdraw-checks rs a n =
       let after : Routes = struck rs (take n a) in
       checks (prefix-checks a n ++ (not (stands rs (take n a)), Unknown)
-        ∷ (ltb vertex-slots (together rs after), VerticesFull) ∷ [])
+      ∷ (ltb vertex-slots (together rs after), VerticesFull) ∷ [])
 
   abbrev pub turn : Routes → Call → Routes × Answer
   turn rs (announce a n h) = decided (announce-checks rs a n h) rs (entered rs (take n a) h)
