@@ -1,4 +1,5 @@
 pub mod Tests
 pub mod Sets
 pub mod Members
+pub mod Each
 pub mod Begins

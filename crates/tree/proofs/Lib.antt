@@ -7,7 +7,7 @@ pub mod Changes
 pub mod Longest
 pub mod Lookup
 pub mod Matched
-pub mod More
+pub mod Tells
 pub mod Shapes
 pub mod Paths
 pub mod Covers
@@ -16,6 +16,7 @@ pub mod Hops
 pub mod Tally
 pub mod Counts
 pub mod Least
+pub mod Vertices
 pub mod Walks
 pub mod Stores
 pub mod Checks

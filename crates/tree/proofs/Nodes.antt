@@ -3,15 +3,17 @@ use mathlib.Core.Path.{_≡_, refl, sym, _∙_, ap}
 use mathlib.Core.Logic.{_↔_, _⊎_, inl, inr, ∥∥₁-elim, ∥∥₁-map}
 use mathlib.Core.List.{List, [], _∷_, _++_, List·Mem, List·Mem-prop, List·Memᴰ, List·Memᴰ·head, List·Memᴰ·tail, List·Memᴰ·not-nil, List·Memᴰ·append-cases, mem-cons-self, mem-cons-of-mem, mem-append-left, mem-append-right}
 use mathlib.Core.Bool.{Bool, true, false, not, _&&_, Bool-set}
-use Prim.Native.Nat.{ℕ}
+use Prim.Native.Nat.{ℕ, _≤_}
 use native.Mathlib.Omega.{arith}
+use lib.ListN.{length}
 use Rattle.std.proofs.shelf.Tests.{true≢false}
 use Rattle.bits.specs.Rows.{Bits}
 use Rattle.tree.specs.Tree.{Routes, Shape, leaf, fork, branching, forks-at, has-node, shape-at, Pushed, grown, pushed, leaves, shapes}
 use Rattle.tree.specs.TreeLaws.{Held}
+use Rattle.tree.specs.LeafLaws.{At-most}
 use Rattle.tree.proofs.Above.{over}
 use Rattle.tree.proofs.Pushed.{pushed-is, one-tree}
-use Rattle.tree.proofs.Leaves.{ends-at, leaf-ends}
+use Rattle.tree.proofs.Leaves.{ends-at, leaf-ends, depth, depth-pushed}
 
 pub child-node : (t : Shape) (q : Bits) (b : Bool) → has-node t (q ++ (b ∷ [])) ≡ forks-at t q
 child-node leaf [] b = refl
@@ -36,6 +38,15 @@ nodes rs q = (λ h. ∣ forth q h ∣₁, λ h. ∥∥₁-elim h (Bool-set _ _) 
     back : (q : Bits) → Held rs q → has-node (pushed rs) q ≡ true
     back q (inl e) = rw e
     back q (inr (u, b, h, e)) = ap (has-node (pushed rs)) e ∙ child-node (pushed rs) u b ∙ pushed-is rs u ∙ h
+
+node-depth : (t : Shape) (q : Bits) → has-node t q ≡ true → length q ≤ depth t
+node-depth t [] h = omega arith
+node-depth leaf (c ∷ q) h = absurd (true≢false (sym h))
+node-depth (fork l r) (true ∷ q) h = omega (arith, node-depth r q h)
+node-depth (fork l r) (false ∷ q) h = omega (arith, node-depth l q h)
+
+pub nodes-short : (W : ℕ) (rs : Routes) (q : Bits) → At-most W rs → has-node (pushed rs) q ≡ true → length q ≤ W
+nodes-short W rs q short h = omega (arith, node-depth (pushed rs) q h, depth-pushed rs W short)
 
 pub ends-is : (t : Shape) (q : Bits) → ends-at t q ≡ (has-node t q && not (forks-at t q))
 ends-is leaf [] = refl
@@ -83,6 +94,9 @@ forks-below t [] v = refl
 forks-below leaf (c ∷ u) v = refl
 forks-below (fork l r) (true ∷ u) v = forks-below r u v
 forks-below (fork l r) (false ∷ u) v = forks-below l u v
+
+pub shape-below : (rs : Routes) (q v : Bits) → forks-at (shape-at (pushed rs) q) v ≡ branching rs (q ++ v)
+shape-below rs q v = forks-below (pushed rs) q v ∙ pushed-is rs (q ++ v)
 
 pub shape-by-forks : (t t′ : Shape) (u : Bits) → ((v : Bits) → forks-at t (u ++ v) ≡ forks-at t′ (u ++ v)) → shape-at t u ≡ shape-at t′ u
 shape-by-forks t t′ u h = one-tree _ _ (λ v. forks-below t u v ∙ h v ∙ sym (forks-below t′ u v))

@@ -1,7 +1,7 @@
 -- What depends on the prefixes of a list of routes alone, and which prefixes a change leaves. Assumes nothing.
 use mathlib.Core.Path.{_≡_, refl, sym, _∙_, ap}
 use mathlib.Core.Logic.{inl, inr}
-use mathlib.Core.List.{[], _∷_}
+use mathlib.Core.List.{[], _∷_, List·Memᴰ, List·Memᴰ·head, List·Memᴰ·tail, List·Memᴰ·not-nil}
 use mathlib.Core.Bool.{Bool, true, false, not, _&&_, _||_}
 use Prim.Native.Nat.{ℕ}
 use native.Mathlib.Omega.{arith}
@@ -58,3 +58,9 @@ restored rs p h s q = let k = stands-struck rs p q in let e : same p q ≡ true 
 
 pub rehopped : (rs : Routes) (p : Bits) (h : ℕ) → stands rs p ≡ true → Same-prefixes (entered rs p h) rs
 rehopped = restored
+
+-- the route of each member stands
+pub member-stands : (rs : Routes) (r : Route) → List·Memᴰ r rs → stands rs (r .at) ≡ true
+member-stands [] r m = absurd (List·Memᴰ·not-nil m)
+member-stands (s ∷ rs) r (List·Memᴰ·head e) = let k : same (s .at) (r .at) ≡ true = rw e (same-self (s .at)) in grind arith
+member-stands (s ∷ rs) r (List·Memᴰ·tail m) = let ih = member-stands rs r m in grind arith

@@ -12,7 +12,7 @@ use Rattle.tree.specs.Tree.{Routes, matched}
 use Rattle.tree.specs.Graph.{Graph}
 use Rattle.tree.specs.Ledger.{Given, Call, lookup, count, Answer, none, counts, refused, vertex-slots, together, turn, after-calls, answers}
 use Rattle.tree.specs.Law.{Map, Tells, asked, Passed, standing, At, State, Law}
-use Rattle.tree.proofs.More.{tells}
+use Rattle.tree.proofs.Tells.{tells}
 use Rattle.tree.proofs.Sounds.{starts-sound, always-sound, full-exactly}
 
 pub after-join : (g : Given) (rs : Routes) (xs ys : List Call) → after-calls g rs (xs ++ ys) ≡ after-calls g (after-calls g rs xs) ys

@@ -1,10 +1,11 @@
 -- A sound list of routes stays sound, whatever the call. Assumes nothing.
-use mathlib.Core.Path.{_≡_, refl, sym, _∙_, ap}
-use mathlib.Core.Logic.{_↔_, _⊎_, inl, inr}
+use mathlib.Core.Path.{_≡_, refl, sym, _∙_, ap, ap₂}
+use mathlib.Core.Logic.{_↔_, _⊎_, inl, inr, ∥∥₁-elim}
 use mathlib.Core.HLevel.{×-prop}
-use mathlib.Core.List.{List, [], _∷_, List·Mem, not-mem-nil, forall-mem-cons}
+use mathlib.Core.List.{List, [], _∷_, List·Mem, List·Memᴰ, List·Memᴰ·head, List·Memᴰ·tail, List·Memᴰ·not-nil, not-mem-nil, forall-mem-cons}
 use mathlib.Core.Bool.{Bool, true, false, not, _&&_, _||_}
 use Prim.Native.Nat.{ℕ, suc, _+_, _≤_, _<_}
+use native.Mathlib.Nat.{ℕ-set}
 use native.Mathlib.Omega.{arith}
 use native.Mathlib.Bridge.{le-prop}
 use lib.Dec.{ltb}
@@ -14,15 +15,16 @@ use Rattle.std.specs.declared.option.Option.the-variants.{Some, None}
 use Rattle.std.proofs.shelf.Tests.{cases-bool, both-ways, ltb-false, ltb-true, le-ltb, lt-ltb}
 use Rattle.refusal.specs.declared.Refusal.{Refusal}
 use Rattle.refusal.specs.declared.Refusal.the-variants.{VerticesFull}
-use Rattle.bits.specs.Rows.{Bits, same}
+use Rattle.bits.specs.Rows.{Bits, same, begins}
 use Rattle.tree.specs.Tree.{Route, Routes, pushed, matched}
 use Rattle.tree.specs.Ledger.{Given, Call, announce, withdraw, lookup, count, Answer, changed, refused, greatest-hop, vertex-slots, stands, struck, entered, vertices, new-shapes, together, announce-checks, withdraw-checks, decided, looked, turn, after-calls}
 use Rattle.tree.specs.Law.{asked, Passed, Passed-announce, Passed-withdraw}
-use Rattle.tree.specs.LeafLaws.{At-most}
+use Rattle.tree.specs.LeafLaws.{At-most, Best}
 use Rattle.tree.specs.LedgerLaws.{Once, Sound}
 use Rattle.bits.proofs.Tests.{same-is, only-is}
 use Rattle.bits.proofs.Members.{same-self}
-use Rattle.tree.proofs.Prefixes.{stands-struck}
+use Rattle.bits.proofs.Begins.{begins-take}
+use Rattle.tree.proofs.Prefixes.{stands-struck, member-stands}
 use Rattle.tree.proofs.Covers.{struck-drop, struck-keep}
 use Rattle.tree.proofs.Paths.{together-is, after-within, rehopping}
 use Rattle.tree.proofs.Counts.{rehops, never-more}
@@ -59,6 +61,24 @@ one-less (r ∷ rs) p once s =
 
 pub as-many : (rs : Routes) (p : Bits) (h : ℕ) → Once rs → stands rs p ≡ true → length (entered rs p h) ≡ length rs
 as-many rs p h once s = one-less rs p once s
+
+-- two beginnings of one row that are equally long are equal
+begins-one : (p r q : Bits) → begins p q ≡ true → begins r q ≡ true → length p ≡ length r → p ≡ r
+begins-one p r q h k e = begins-take p q h ∙ ap (λ n. take n q) e ∙ sym (begins-take r q k)
+
+-- a prefix has one route
+one-route : (rs : Routes) (r s : Route) → Once rs → List·Memᴰ r rs → List·Memᴰ s rs → r .at ≡ s .at → r ≡ s
+one-route [] r s once m n e = absurd (List·Memᴰ·not-nil m)
+one-route (x ∷ rs) r s once (List·Memᴰ·head d) (List·Memᴰ·head f) e = d ∙ sym f
+one-route (x ∷ rs) r s once (List·Memᴰ·head d) (List·Memᴰ·tail n) e = absurd (both-ways _ (once .0) (rw (← ap (λ y. y .at) d, e) (member-stands rs s n)))
+one-route (x ∷ rs) r s once (List·Memᴰ·tail m) (List·Memᴰ·head f) e = absurd (both-ways _ (once .0) (rw (← ap (λ y. y .at) f, ← e) (member-stands rs r m)))
+one-route (x ∷ rs) r s once (List·Memᴰ·tail m) (List·Memᴰ·tail n) e = one-route rs r s (once .1) m n e
+
+pub one-best : (rs : Routes) (q : Bits) (r s : Route) → Once rs → Best rs q r → Best rs q s → r ≡ s
+one-best rs q r s once b c =
+    let same-at : r .at ≡ s .at = begins-one (r .at) (s .at) q (b .front) (c .front) (omega (arith, b .most s (c .member) (c .front), c .most r (b .member) (b .front))) in
+    let same-hop : r .hop ≡ s .hop = ∥∥₁-elim (b .member) (ℕ-set _ _) (λ m. ∥∥₁-elim (c .member) (ℕ-set _ _) (λ n. ap (λ x. x .hop) (one-route rs r s once m n same-at))) in
+    ap₂ (λ a h. record { at = a; hop = h }) same-at same-hop
 
 -- what holds of each route
 struck-each : {P : Route → Type 0} (rs : Routes) (p : Bits) → ((r : Route) → List·Mem r rs → P r) → (r : Route) → List·Mem r (struck rs p) → P r

@@ -24,7 +24,7 @@ use Rattle.tree.specs.StoreLaws.{hop-at, leaf-entry, Routes-told, Leaves-told}
 use Rattle.bits.proofs.Tests.{same-is, never}
 use Rattle.bits.proofs.Members.{same-self, same-swap, has-row, same-equality}
 use Rattle.bits.proofs.Sets.{any-only}
-use Rattle.tree.proofs.Prefixes.{stands-struck}
+use Rattle.tree.proofs.Prefixes.{member-stands}
 use Rattle.tree.proofs.Covers.{struck-drop, struck-keep}
 use Rattle.tree.proofs.Matched.{matched-is, unmatched-is}
 use Rattle.tree.proofs.Walks.{reads-end-at-leaves}
@@ -41,11 +41,6 @@ same-entries o m e = elim (which o) [
   | inl (h, k) ↦ k ∙ sym (e h .0 k)
   | inr k ↦ elim (which m) [ inl (h, j) ↦ e h .1 j ∙ sym j | inr j ↦ k ∙ sym j ]
 ]
-
-member-stands : (rs : Routes) (r : Route) → List·Memᴰ r rs → stands rs (r .at) ≡ true
-member-stands [] r m = absurd (List·Memᴰ·not-nil m)
-member-stands (s ∷ rs) r (List·Memᴰ·head e) = let k : same (s .at) (r .at) ≡ true = rw e (same-self (s .at)) in grind arith
-member-stands (s ∷ rs) r (List·Memᴰ·tail m) = let ih = member-stands rs r m in grind arith
 
 -- a map tells the hop with which a route stands
 hop-stands : (rs : Routes) (p : Bits) (h : ℕ) → hop-at rs p ≡ Some h → List·Mem (record { at = p; hop = h }) rs
@@ -99,7 +94,7 @@ entry-is rs q h = (forth (cases-bool (any (same q) (leaves (pushed rs) []))), λ
 pub leaves-told : (rs : Routes) (m : Map) → Leaves-told rs m ↔ ((q : Bits) → m q ≡ leaf-entry rs q)
 leaves-told rs m = by-entries m (leaf-entry rs) _ (entry-is rs)
 
-any-prefix : (rs : Routes) (p : Bits) → any (same p) (map (λ r. r .at) rs) ≡ stands rs p
+pub any-prefix : (rs : Routes) (p : Bits) → any (same p) (map (λ r. r .at) rs) ≡ stands rs p
 any-prefix [] p = refl
 any-prefix (r ∷ rs) p = let ih = any-prefix rs p in let s = same-swap p (r .at) in grind arith
 

@@ -1,15 +1,19 @@
 -- The leaves below a node, and what the leaves are once the tree has grown below one of them. Assumes nothing.
-use mathlib.Core.Path.{_≡_, refl, sym, _∙_, ap}
-use mathlib.Core.Logic.{_↔_, _⊎_, inl, inr}
-use mathlib.Core.List.{List, [], _∷_, _++_, List·Mem}
+use mathlib.Core.Path.{_≡_, refl, sym, _∙_, ap, ap₂}
+use mathlib.Core.Logic.{_↔_, _⊎_, inl, inr, ∥∥₁-elim}
+use mathlib.Core.List.{List, [], _∷_, _++_, append-assoc, List·Mem, List·Mem-prop}
 use mathlib.Core.Bool.{Bool, true, false, not, _&&_, _||_}
+use Prim.Native.Nat.{ℕ, suc, _+_, _-_}
 use native.Mathlib.Omega.{arith}
-use lib.ListN.{length, drop}
-use Rattle.std.proofs.shelf.Tests.{true≢false}
+use lib.ListN.{length, drop, length-append}
+use Rattle.std.proofs.shelf.Tests.{true≢false, and-parts, and-from}
 use Rattle.bits.specs.Lists.{any}
 use Rattle.bits.specs.Rows.{Bits, same, begins}
 use Rattle.tree.specs.Tree.{Routes, Shape, leaf, fork, has-node, shape-at, grown, leaves}
+use Rattle.tree.specs.Changes.{twigs}
+use Rattle.tree.specs.HopLaws.{Beside-way}
 use Rattle.bits.proofs.Members.{any-join, has-row}
+use Rattle.bits.proofs.Begins.{begins-join, begins-rest, begins-cancel, drop-join}
 use Rattle.tree.proofs.Above.{over}
 use Rattle.tree.proofs.Leaves.{ends-at}
 
@@ -76,3 +80,67 @@ pub path-end : (w : Bits) → ends-at (grown w leaf) w ≡ true
 path-end [] = refl
 path-end (true ∷ w) = path-end w
 path-end (false ∷ w) = path-end w
+
+-- the leaves of a path: its end, and the sibling of each node on it
+abbrev beside-path : Bits → Bits → Type 0
+beside-path w x = (v : Bits) × (b : Bool) × (begins (v ++ (b ∷ [])) w ≡ true) × (x ≡ v ++ (not b ∷ []))
+
+path-leaf : (w x : Bits) → ends-at (grown w leaf) x ≡ true → (x ≡ w) ⊎ beside-path w x
+path-leaf [] [] e = inl refl
+path-leaf [] (c ∷ x) e = absurd (true≢false (sym e))
+path-leaf (false ∷ w) [] e = absurd (true≢false (sym e))
+path-leaf (true ∷ w) [] e = absurd (true≢false (sym e))
+path-leaf (false ∷ w) (false ∷ x) e = elim (path-leaf w x e) [ inl k ↦ inl (ap (λ r. false ∷ r) k) | inr (v, b, h, k) ↦ inr (false ∷ v, b, h, ap (λ r. false ∷ r) k) ]
+path-leaf (true ∷ w) (true ∷ x) e = elim (path-leaf w x e) [ inl k ↦ inl (ap (λ r. true ∷ r) k) | inr (v, b, h, k) ↦ inr (true ∷ v, b, h, ap (λ r. true ∷ r) k) ]
+path-leaf (false ∷ w) (true ∷ []) e = inr ([], false, refl, refl)
+path-leaf (true ∷ w) (false ∷ []) e = inr ([], true, refl, refl)
+path-leaf (false ∷ w) (true ∷ c ∷ x) e = absurd (true≢false (sym e))
+path-leaf (true ∷ w) (false ∷ c ∷ x) e = absurd (true≢false (sym e))
+
+leaf-path : (w v : Bits) (b : Bool) → begins (v ++ (b ∷ [])) w ≡ true → ends-at (grown w leaf) (v ++ (not b ∷ [])) ≡ true
+leaf-path [] [] b h = absurd (true≢false (sym h))
+leaf-path [] (c ∷ v) b h = absurd (true≢false (sym h))
+leaf-path (false ∷ w) [] false h = refl
+leaf-path (false ∷ w) [] true h = absurd (true≢false (sym h))
+leaf-path (true ∷ w) [] true h = refl
+leaf-path (true ∷ w) [] false h = absurd (true≢false (sym h))
+leaf-path (false ∷ w) (false ∷ v) b h = leaf-path w v b h
+leaf-path (true ∷ w) (true ∷ v) b h = leaf-path w v b h
+leaf-path (false ∷ w) (true ∷ v) b h = absurd (true≢false (sym h))
+leaf-path (true ∷ w) (false ∷ v) b h = absurd (true≢false (sym h))
+
+pub twigs-are : (q p : Bits) → begins q p ≡ true → (u : Bits) → List·Mem u (twigs q p) ↔ ∥ ((u ≡ p) ⊎ Beside-way q p u) ∥₁
+twigs-are q p f u = (λ m. ∣ forth (listed-below (grown w leaf) q u .0 m) ∣₁, λ h. ∥∥₁-elim h List·Mem-prop back)
+  where
+    w : Bits
+    w = drop (length q) p
+
+    forth : (begins q u && ends-at (grown w leaf) (drop (length q) u)) ≡ true → (u ≡ p) ⊎ Beside-way q p u
+    forth e =
+        let parts = and-parts (begins q u) (ends-at (grown w leaf) (drop (length q) u)) e in
+        let rest = begins-rest q u (parts .0) in
+        let whole = begins-rest q p f in
+        elim (path-leaf w (drop (length q) u) (parts .1)) [
+          | inl k ↦ inl (rest ∙ ap (λ r. q ++ r) k ∙ sym whole)
+          | inr (v, b, h, k) ↦ inr (q ++ v, b, begins-join q v, ap₂ begins (append-assoc q v (b ∷ [])) whole ∙ begins-cancel q (v ++ (b ∷ [])) w ∙ h, rest ∙ ap (λ r. q ++ r) k ∙ sym (append-assoc q v (not b ∷ [])))
+        ]
+
+    back : (u ≡ p) ⊎ Beside-way q p u → List·Mem u (twigs q p)
+    back (inl e) = rw e (listed-below (grown w leaf) q p .1 (and-from _ _ f (path-end w)))
+    back (inr (v, b, h, k, e)) =
+        let x : Bits = drop (length q) v in
+        let end : Bits = x ++ (not b ∷ []) in
+        let row = begins-rest q v h in
+        let there : u ≡ q ++ end = e ∙ ap (λ r. r ++ (not b ∷ [])) row ∙ append-assoc q x (not b ∷ []) in
+        let on : begins (x ++ (b ∷ [])) w ≡ true = sym (begins-cancel q (x ++ (b ∷ [])) w) ∙ ap₂ begins (sym (ap (λ r. r ++ (b ∷ [])) row ∙ append-assoc q x (b ∷ []))) (sym (begins-rest q p f)) ∙ k in
+        rw there (listed-below (grown w leaf) q (q ++ end) .1 (and-from _ _ (begins-join q end) (ap (ends-at (grown w leaf)) (drop-join q end) ∙ leaf-path w x b on)))
+
+path-number : (w q : Bits) → length (leaves (grown w leaf) q) ≡ suc (length w)
+path-number [] q = refl
+path-number (false ∷ w) q = length-append (leaves (grown w leaf) (q ++ (false ∷ []))) _ ∙ omega (arith, path-number w (q ++ (false ∷ [])))
+path-number (true ∷ w) q = omega (arith, path-number w (q ++ (true ∷ [])))
+
+pub twigs-number : (q p : Bits) → begins q p ≡ true → length (twigs q p) ≡ suc (length p - length q)
+twigs-number q p f =
+    let l = ap length (begins-rest q p f) ∙ length-append q (drop (length q) p) in
+    omega (arith, path-number (drop (length q) p) q)

@@ -14,7 +14,7 @@ use Rattle.tree.specs.Tree.{Route, Routes, matched}
 use Rattle.tree.specs.Graph.{Graph}
 use Rattle.tree.specs.Ledger.{Given, Call, Answer, changed, refused, greatest-hop, vertex-slots, stands, struck, entered, vertices, new-shapes, together, turn, after-calls, answers}
 use Rattle.tree.specs.Law.{Map, asked, Passed, State, Law}
-use Rattle.tree.specs.LeafLaws.{At-most}
+use Rattle.tree.specs.LeafLaws.{At-most, Best}
 
 abbrev pub Once : Routes → Type 0
 Once [] = Unit {0}
@@ -38,6 +38,8 @@ pub record Ledger-laws : Type 0 where
   pub granted : (g : Given) (rs : Routes) (c : Call) → Sound g rs → Passed g rs c → together rs (asked rs c) ≤ vertex-slots → turn g rs c ≡ (asked rs c, changed (new-shapes rs (asked rs c)))
   -- a refusal leaves the list as it was
   pub refusals-keep : (g : Given) (rs : Routes) (c : Call) (r : Refusal) → turn g rs c .1 ≡ refused r → turn g rs c .0 ≡ rs
+  -- among routes without repeats there is one longest match
+  pub one-best : (rs : Routes) (q : Bits) (r s : Route) → Once rs → Best rs q r → Best rs q s → r ≡ s
   -- the number of routes
   pub one-more : (rs : Routes) (p : Bits) (h : ℕ) → stands rs p ≡ false → length (entered rs p h) ≡ suc (length rs)
   pub as-many : (rs : Routes) (p : Bits) (h : ℕ) → Once rs → stands rs p ≡ true → length (entered rs p h) ≡ length rs

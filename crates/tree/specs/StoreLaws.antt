@@ -39,6 +39,7 @@ pub record Store-laws : Type 0 where
   pub leaves-told : (rs : Routes) (m : Map) → Leaves-told rs m ↔ ((q : Bits) → m q ≡ leaf-entry rs q)
   -- the rows that each store has, each once
   pub routes-once : (rs : Routes) → Once rs → List·Nodup (map (λ r. r .at) rs)
+  pub routes-listed : (rs : Routes) (p : Bits) → any (same p) (map (λ r. r .at) rs) ≡ stands rs p
   pub routes-held : (rs : Routes) (p : Bits) → isSome (hop-at rs p) ≡ stands rs p
   pub leaves-held : (rs : Routes) (q : Bits) → isSome (leaf-entry rs q) ≡ any (same q) (matched rs)
   -- what a change does to the route store

@@ -5,11 +5,13 @@ use mathlib.Core.Path.{_≡_}
 use mathlib.Core.Logic.{_↔_, _⊎_}
 use mathlib.Core.List.{[], _∷_, _++_, List·Mem}
 use mathlib.Core.Bool.{Bool, true, false, _||_}
-use Prim.Native.Nat.{ℕ}
+use Prim.Native.Nat.{ℕ, _≤_}
+use lib.ListN.{length}
 use Rattle.bits.specs.Rows.{Bits}
 use Rattle.tree.specs.Tree.{Routes, Shape, above, branching, forks-at, has-node, shape-at, Pushed, grown, pushed, leaves, shapes}
 use Rattle.tree.specs.Ledger.{stands, struck, entered}
 use Rattle.tree.specs.Changes.{pruned}
+use Rattle.tree.specs.LeafLaws.{At-most}
 
 abbrev pub Held : Routes → Bits → Type 0
 Held rs q = (q ≡ []) ⊎ ((u : Bits) × (b : Bool) × (branching rs u ≡ true) × (q ≡ u ++ (b ∷ [])))
@@ -24,7 +26,9 @@ pub record Tree-laws : Type 0 where
   -- its nodes are the root and both children of each branching node; the leaves are those that do not branch
   pub nodes : (rs : Routes) (q : Bits) → (has-node (pushed rs) q ≡ true) ↔ ∥ Held rs q ∥₁
   pub leaf-nodes : (rs : Routes) (q : Bits) → List·Mem q (leaves (pushed rs) []) ↔ ((has-node (pushed rs) q ≡ true) × (branching rs q ≡ false))
-  -- the branching shapes are the shapes of the branching nodes
+  pub nodes-short : (W : ℕ) (rs : Routes) (q : Bits) → At-most W rs → has-node (pushed rs) q ≡ true → length q ≤ W
+  -- a node's shape is the tree below it; the branching shapes are the shapes of the branching nodes
+  pub shape-below : (rs : Routes) (q v : Bits) → forks-at (shape-at (pushed rs) q) v ≡ branching rs (q ++ v)
   pub branching-shapes : (rs : Routes) (s : Shape) → List·Mem s (shapes (pushed rs)) ↔ ∥ ((q : Bits) × (branching rs q ≡ true) × (shape-at (pushed rs) q ≡ s)) ∥₁
   -- neither order nor repetition nor hops make a difference
   pub by-prefixes : (rs ss : Routes) → Same-prefixes rs ss → pushed rs ≡ pushed ss

@@ -1,8 +1,8 @@
 use mathlib.Core.List.{[]}
 use Rattle.tree.proofs.ledger_laws_stand.Needs as need
-use Rattle.tree.proofs.Sounds.{starts-sound, turn-sound, always-sound, full-exactly, granted, refusals-keep, one-more, as-many, one-less}
+use Rattle.tree.proofs.Sounds.{starts-sound, turn-sound, always-sound, full-exactly, granted, refusals-keep, one-best, one-more, as-many, one-less}
 use Rattle.tree.proofs.Runs.{law-holds, law-starts, law-steps}
-use Rattle.tree.proofs.Stores.{routes-told, leaves-told, routes-once, routes-held, leaves-held, entered-hop, struck-hop, state-holds}
+use Rattle.tree.proofs.Stores.{routes-told, leaves-told, routes-once, any-prefix, routes-held, leaves-held, entered-hop, struck-hop, state-holds}
 
 pub returns : need.returns
 returns c = record {
@@ -13,6 +13,7 @@ returns c = record {
     full-exactly = λ g rs call sound. full-exactly g rs sound call;
     granted = λ g rs call sound. granted g rs sound call;
     refusals-keep = refusals-keep;
+    one-best = one-best;
     one-more = one-more;
     as-many = as-many;
     one-less = one-less;
@@ -22,6 +23,7 @@ returns c = record {
     routes-told = routes-told;
     leaves-told = leaves-told;
     routes-once = routes-once;
+    routes-listed = any-prefix;
     routes-held = routes-held;
     leaves-held = leaves-held;
     entered-hop = entered-hop;

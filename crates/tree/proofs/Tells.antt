@@ -1,4 +1,4 @@
--- The laws once more, in the words of `Law` and `Graph`. Assumes nothing.
+-- What a lookup answers, and how long a row's leaf is, in words. Assumes nothing.
 use mathlib.Core.Path.{_≡_, refl, sym, _∙_}
 use mathlib.Core.Logic.{_↔_}
 use mathlib.Core.List.{[], _∷_, List·Mem}
