@@ -1,9 +1,9 @@
 -- Members of lists that are joined or picked, and how many pass a test. Assumes nothing.
-use mathlib.Core.Path.{_≡_, refl, ap}
+use mathlib.Core.Path.{_≡_, refl}
 use mathlib.Core.Logic.{_↔_, ∥∥₁-elim}
 use mathlib.Core.List.{List, [], _∷_, _++_, List·Mem}
-use mathlib.Core.Bool.{Bool, true, false, cond, not, _&&_, _||_, Bool-set}
-use Prim.Native.Nat.{ℕ, _+_, _≤_}
+use mathlib.Core.Bool.{Bool, true, false, not, _&&_, _||_, Bool-set}
+use Prim.Native.Nat.{_+_, _≤_}
 use native.Mathlib.Omega.{arith}
 use lib.ListN.{length}
 use Rattle.bits.specs.Lists.{any, only, count}

@@ -1,14 +1,14 @@
 -- The ledger's checks, read as facts. Assumes nothing.
-use mathlib.Core.Path.{_≡_, refl, sym}
+use mathlib.Core.Path.{_≡_}
 use mathlib.Core.Logic.{_⊎_, inl, inr}
-use mathlib.Core.List.{List, [], _∷_, _++_}
+use mathlib.Core.List.{[], _∷_}
 use mathlib.Core.Bool.{Bool, true, false, not, _&&_, _||_}
-use Prim.Native.Nat.{ℕ, _+_, _≤_, _<_}
+use Prim.Native.Nat.{ℕ}
 use native.Mathlib.Omega.{arith}
 use lib.Dec.{ltb, eqb}
 use lib.ListN.{length, take, drop}
 use Rattle.std.specs.declared.option.Option.{Option}
-use Rattle.std.specs.declared.option.Option.the-variants.{Some, None}
+use Rattle.std.specs.declared.option.Option.the-variants.{None}
 use Rattle.std.proofs.shelf.Tests.{cases-bool, or-parts, ltb-false, le-ltb}
 use Rattle.std.proofs.shelf.Ways.{tells}
 use Rattle.refusal.specs.declared.Refusal.{Refusal}
@@ -16,7 +16,7 @@ use Rattle.refusal.specs.declared.Refusal.the-variants.{Length, HostBits, Hop, 
 use Rattle.bits.specs.Rows.{Bits, any-one}
 use Rattle.tree.specs.Tree.{Routes, matched}
 use Rattle.tree.specs.Ledger.{Given, greatest-hop, vertex-slots, stands, struck, entered, together, checks, announce-checks, withdraw-checks}
-use Rattle.tree.specs.Law.{Right-prefix, Room, Passed-announce, Passed-withdraw}
+use Rattle.tree.specs.Law.{Passed-announce, Passed-withdraw}
 
 -- what is left once the check of the vertices is
 abbrev pub last : Bool → Option Refusal

@@ -1,30 +1,32 @@
 -- How many matched leaves a change leaves. Assumes nothing.
 use mathlib.Core.Path.{_≡_, refl, sym, _∙_, ap, ap₂}
-use mathlib.Core.Logic.{_⊎_, inl, inr}
+use mathlib.Core.Logic.{inl, inr}
 use mathlib.Core.List.{List, [], _∷_, _++_}
-use mathlib.Core.Bool.{Bool, true, false, cond, not, _&&_, _||_}
+use mathlib.Core.Bool.{Bool, true, false, cond, not, _||_}
 use Prim.Native.Nat.{ℕ, suc, _+_, _-_, _≤_}
 use native.Mathlib.Omega.{arith}
 use lib.ListN.{length, drop, length-append}
-use Rattle.std.proofs.shelf.Tests.{cases-bool, both-ways}
+use Rattle.std.specs.Options.{isSome}
+use Rattle.std.proofs.shelf.Tests.{cases-bool, both-ways, or-left, or-right}
 use Rattle.bits.specs.Lists.{any, count}
 use Rattle.bits.specs.Rows.{Bits, same, begins}
-use Rattle.tree.specs.Tree.{Route, Routes, Shape, leaf, fork, above, has-node, shape-at, grown, pushed, leaves, matches}
+use Rattle.tree.specs.Tree.{Routes, Shape, leaf, fork, above, has-node, shape-at, grown, pushed, leaves, matches}
 use Rattle.tree.specs.Ledger.{stands, struck, entered}
 use Rattle.tree.specs.Changes.{painted, unless, reach}
 use Rattle.tree.specs.TreeLaws.{Same-prefixes}
 use Rattle.tree.specs.HopLaws.{Leaf}
 use Rattle.tree.specs.CountLaws.{unmatched, held}
 use Rattle.bits.proofs.Tests.{same-is, never}
-use Rattle.bits.proofs.Members.{length-only}
+use Rattle.bits.proofs.Members.{length-only, same-self, has-row}
 use Rattle.bits.proofs.Begins.{begins-join}
 use Rattle.tree.proofs.Above.{over, above-is}
-use Rattle.tree.proofs.Leaves.{ends-at, leaf-ends}
+use Rattle.tree.proofs.Leaves.{leaf-ends}
 use Rattle.tree.proofs.Nodes.{grown-node}
-use Rattle.tree.proofs.Prefixes.{pushed-by-prefixes, matches-by-prefixes, stands-struck, stands-entered, restored, rehopped}
+use Rattle.tree.proofs.Prefixes.{pushed-by-prefixes, matches-by-prefixes, stands-struck, stands-entered, rehopped}
 use Rattle.tree.proofs.Changes.{entering, striking-beside}
 use Rattle.tree.proofs.Lookup.{within, nothing-below}
-use Rattle.tree.proofs.Hops.{whole, node-or-below}
+use Rattle.tree.proofs.Hops.{whole, node-or-below, strikes-node as repainted}
+use Rattle.tree.proofs.Matched.{some-hop}
 use Rattle.tree.proofs.Tally.{tally, tally-like, count-leaves, node-tally, below-tally, painted-count}
 
 pub held-is : (rs : Routes) → held rs ≡ tally (matches rs) (pushed rs)
@@ -131,6 +133,27 @@ reach-struck rs p =
 
 pub strikes-node : (rs : Routes) (p : Bits) → stands rs p ≡ true → has-node (pushed (struck rs p)) p ≡ true → held rs ≡ held (struck rs p) + count (unmatched (struck rs p)) (reach rs p)
 strikes-node rs p s node = again rs p s ∙ enters-node (struck rs p) p 0 node ∙ ap (λ xs. held (struck rs p) + count (unmatched (struck rs p)) xs) (reach-struck rs p)
+
+-- rows that pass all, or fail all
+count-all : (f : Bits → Bool) (c : Bool) (xs : List Bits) → ((u : Bits) → any (same u) xs ≡ true → f u ≡ c) → count f xs ≡ cond c (length xs) 0
+count-all f true [] h = refl
+count-all f false [] h = refl
+count-all f c (x ∷ xs) h =
+    let here = h x (or-left (same x x) _ (same-self x)) in
+    let ih = count-all f c xs (λ u k. h u (or-right (same u x) _ k)) in
+    grind arith
+
+-- what p decided is matched afterwards if p is
+module _ (rs : Routes) (p : Bits) (s : stands rs p ≡ true) (node : has-node (pushed (struck rs p)) p ≡ true) where
+  left-bare : count (unmatched (struck rs p)) (reach rs p) ≡ cond (unmatched (struck rs p) p) (length (reach rs p)) 0
+  left-bare = count-all (unmatched (struck rs p)) (unmatched (struck rs p) p) (reach rs p)
+      (λ u k. ap not (sym (some-hop (struck rs p) u) ∙ ap isSome (repainted rs p s node .painted u (has-row u _ .1 k)) ∙ some-hop (struck rs p) p))
+
+  pub strikes-covered : matches (struck rs p) p ≡ true → held rs ≡ held (struck rs p)
+  strikes-covered m = let e = left-bare in let n = strikes-node rs p s node in grind arith
+
+  pub strikes-bare : matches (struck rs p) p ≡ false → held rs ≡ held (struck rs p) + length (reach rs p)
+  strikes-bare m = let e = left-bare in let n = strikes-node rs p s node in grind arith
 
 pub folds-unmatched : (rs : Routes) (q p : Bits) → stands rs p ≡ true → Leaf (struck rs p) q → above q p ≡ true → matches (struck rs p) q ≡ false → held rs ≡ held (struck rs p) + 1
 folds-unmatched rs q p s l o m = again rs p s ∙ below-unmatched (struck rs p) q p 0 l o m

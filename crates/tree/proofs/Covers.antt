@@ -3,7 +3,7 @@ use mathlib.Core.Path.{_≡_, refl, sym, _∙_, ap}
 use mathlib.Core.Logic.{_⊎_, inl, inr}
 use mathlib.Core.List.{List, [], _∷_, _++_}
 use mathlib.Core.Bool.{Bool, true, false, cond, not, _&&_, _||_}
-use Prim.Native.Nat.{ℕ, _≤_, _<_}
+use Prim.Native.Nat.{ℕ, _≤_}
 use native.Mathlib.Omega.{arith}
 use lib.Dec.{ltb}
 use lib.ListN.{length}
@@ -13,7 +13,7 @@ use Rattle.std.proofs.shelf.Tests.{cases-bool, or-parts, true≢false, and-part
 use Rattle.std.proofs.shelf.Ways.{tells}
 use Rattle.bits.specs.Lists.{any}
 use Rattle.bits.specs.Rows.{Bits, same, begins}
-use Rattle.tree.specs.Tree.{Route, Routes, Shape, leaf, fork, leaves, longer, longest, hop-of}
+use Rattle.tree.specs.Tree.{Route, Routes, Shape, leaf, fork, leaves, longer, longest}
 use Rattle.tree.specs.Ledger.{stands, struck, entered}
 use Rattle.tree.specs.Changes.{painted, unless}
 use Rattle.bits.proofs.Tests.{same-is}

@@ -1,19 +1,18 @@
 -- What a change does to each leaf's hop. Assumes nothing.
 use mathlib.Core.Path.{_≡_, refl, sym, _∙_, ap}
 use mathlib.Core.Logic.{_↔_, _⊎_, inl, inr, ∥∥₁-elim}
-use mathlib.Core.List.{List, [], _∷_, _++_, List·Mem, List·Mem-prop}
+use mathlib.Core.List.{[], _∷_, _++_, List·Mem}
 use mathlib.Core.Bool.{Bool, true, false, not, _&&_, _||_, Bool-set}
 use Prim.Native.Nat.{ℕ}
 use native.Mathlib.Omega.{arith}
 use lib.ListN.{length, drop}
-use Rattle.std.specs.declared.option.Option.{Option}
-use Rattle.std.specs.declared.option.Option.the-variants.{Some, None}
+use Rattle.std.specs.declared.option.Option.the-variants.{Some}
 use Rattle.std.proofs.shelf.Tests.{cases-bool, both-ways, and-parts, or-cases}
 use Rattle.bits.specs.Lists.{any}
 use Rattle.bits.specs.Rows.{Bits, same, begins}
-use Rattle.tree.specs.Tree.{Route, Routes, Shape, leaf, fork, above, has-node, shape-at, grown, pushed, leaves, longest, hop-of}
+use Rattle.tree.specs.Tree.{Routes, Shape, leaf, above, has-node, shape-at, grown, pushed, leaves, hop-of}
 use Rattle.tree.specs.Ledger.{stands, struck, entered}
-use Rattle.tree.specs.Changes.{painted, reach, twigs}
+use Rattle.tree.specs.Changes.{painted, reach}
 use Rattle.tree.specs.HopLaws.{leaf-hop, Leaf, Repaints, Splits, Folds}
 use Rattle.bits.proofs.Tests.{never, same-is}
 use Rattle.bits.proofs.Members.{has-row, same-self}
@@ -155,63 +154,57 @@ module _ (t : Shape) (q p : Bits) (l : ends-at t q ≡ true) (o : over q p ≡ t
 
 -- to enter p below the leaf q
 module _ (rs : Routes) (q p : Bits) (h : ℕ) (is-leaf : Leaf rs q) (o : above q p ≡ true) where
-  abbrev t : Shape
-  t = pushed rs
+  entered-end : ends-at (pushed rs) q ≡ true
+  entered-end = leaf-ends (pushed rs) q .0 is-leaf
 
-  l : ends-at t q ≡ true
-  l = leaf-ends t q .0 is-leaf
+  entered-over : over q p ≡ true
+  entered-over = sym (above-is q p) ∙ o
 
-  o′ : over q p ≡ true
-  o′ = sym (above-is q p) ∙ o
-
-  new-leaf-ends : (u : Bits) → Leaf (entered rs p h) u ↔ (ends-at (grown p t) u ≡ true)
+  new-leaf-ends : (u : Bits) → Leaf (entered rs p h) u ↔ (ends-at (grown p (pushed rs)) u ≡ true)
   new-leaf-ends u = rw (← entering rs p h) (leaf-ends (pushed (entered rs p h)) u)
 
   pub enters-below : Splits rs (entered rs p h) q p (Some h)
   enters-below = record {
     was-leaf = is-leaf;
-    no-leaf = λ m. leaf-gone t q p l o′ (new-leaf-ends q .0 m);
-    new-leaf = listed-below _ q p .1 (twig-end t q p l o′);
+    no-leaf = λ m. leaf-gone (pushed rs) q p entered-end entered-over (new-leaf-ends q .0 m);
+    new-leaf = listed-below _ q p .1 (twig-end (pushed rs) q p entered-end entered-over);
     leaves = λ u. (
-      λ m. ∣ elim (split t q p l o′ u (new-leaf-ends u .0 m)) [ inl (e, n) ↦ inl (leaf-ends t u .1 e, n) | inr k ↦ inr (listed-below _ q u .1 k) ] ∣₁,
-      λ m. new-leaf-ends u .1 (∥∥₁-elim m (Bool-set _ _) (λ s. split-back t q p l o′ u (elim s [ inl (e, n) ↦ inl (leaf-ends t u .0 e, n) | inr k ↦ inr (listed-below _ q u .0 k) ]))),
+      λ m. ∣ elim (split (pushed rs) q p entered-end entered-over u (new-leaf-ends u .0 m)) [ inl (e, n) ↦ inl (leaf-ends (pushed rs) u .1 e, n) | inr k ↦ inr (listed-below _ q u .1 k) ] ∣₁,
+      λ m. new-leaf-ends u .1 (∥∥₁-elim m (Bool-set _ _) (λ s. split-back (pushed rs) q p entered-end entered-over u (elim s [ inl (e, n) ↦ inl (leaf-ends (pushed rs) u .0 e, n) | inr k ↦ inr (listed-below _ q u .0 k) ]))),
     );
     painted = ap hop-of (entered-here rs p h p (begins-self p) (covered-none rs p));
     beside = λ u m n. (let e = listed-below _ q u .0 m in
-        ap hop-of (entered-elsewhere rs p h u (other-twig t q p l o′ u e n) ∙ longest-by-leaf rs q is-leaf u (and-parts (begins q u) _ e .0)));
-    stays = λ u m n. ap hop-of (entered-elsewhere rs p h u (other-leaf t q p l o′ u (leaf-ends t u .0 m) n));
+        ap hop-of (entered-elsewhere rs p h u (other-twig (pushed rs) q p entered-end entered-over u e n) ∙ longest-by-leaf rs q is-leaf u (and-parts (begins q u) _ e .0)));
+    stays = λ u m n. ap hop-of (entered-elsewhere rs p h u (other-leaf (pushed rs) q p entered-end entered-over u (leaf-ends (pushed rs) u .0 m) n));
   }
 
 -- to strike p, so that the tree folds back to the leaf q
 module _ (rs : Routes) (q p : Bits) (stood : stands rs p ≡ true) (is-leaf : Leaf (struck rs p) q) (o : above q p ≡ true) where
-  abbrev ss : Routes
-  ss = struck rs p
+  abbrev folded-tree : Shape
+  folded-tree = pushed (struck rs p)
 
-  abbrev s : Shape
-  s = pushed ss
+  struck-end : ends-at folded-tree q ≡ true
+  struck-end = leaf-ends folded-tree q .0 is-leaf
 
-  k : ends-at s q ≡ true
-  k = leaf-ends s q .0 is-leaf
+  struck-over : over q p ≡ true
+  struck-over = sym (above-is q p) ∙ o
 
-  v : over q p ≡ true
-  v = sym (above-is q p) ∙ o
-
-  old-leaf-ends : (u : Bits) → Leaf rs u ↔ (ends-at (grown p s) u ≡ true)
+  old-leaf-ends : (u : Bits) → Leaf rs u ↔ (ends-at (grown p folded-tree) u ≡ true)
   old-leaf-ends u = rw (undoing rs p stood) (leaf-ends (pushed rs) u)
 
   pub strikes-below : Folds rs (struck rs p) q p
   strikes-below = record {
-    no-leaf = λ m. leaf-gone s q p k v (old-leaf-ends q .0 m);
+    no-leaf = λ m. leaf-gone folded-tree q p struck-end struck-over (old-leaf-ends q .0 m);
     is-leaf = is-leaf;
     leaves = λ u. (
-      λ m. ∣ elim (fold s q p k v u (leaf-ends s u .0 m)) [ inl (e, n) ↦ inl (old-leaf-ends u .1 e, λ j. n (listed-below _ q u .0 j)) | inr e ↦ inr e ] ∣₁,
-      λ m. leaf-ends s u .1 (∥∥₁-elim m (Bool-set _ _) (λ x. fold-back s q p k v u (elim x [ inl (e, n) ↦ inl (old-leaf-ends u .0 e, λ j. n (listed-below _ q u .1 j)) | inr e ↦ inr e ]))),
+      λ m. ∣ elim (fold folded-tree q p struck-end struck-over u (leaf-ends folded-tree u .0 m)) [ inl (e, n) ↦ inl (old-leaf-ends u .1 e, λ j. n (listed-below _ q u .0 j)) | inr e ↦ inr e ] ∣₁,
+      λ m. leaf-ends folded-tree u .1 (∥∥₁-elim m (Bool-set _ _) (λ x. fold-back folded-tree q p struck-end struck-over u (elim x [ inl (e, n) ↦ inl (old-leaf-ends u .0 e, λ j. n (listed-below _ q u .1 j)) | inr e ↦ inr e ]))),
     );
-    painted = ap hop-of (sym (longest-by-leaf ss q is-leaf p (front s q p k v)));
+    painted = ap hop-of (sym (longest-by-leaf (struck rs p) q is-leaf p (front folded-tree q p struck-end struck-over)));
     beside = λ u m n. (let e = listed-below _ q u .0 m in
-        ap hop-of (sym (longest-by-leaf ss q is-leaf u (and-parts (begins q u) _ e .0)) ∙ struck-elsewhere rs p u (other-twig s q p k v u e n)));
-    stays = λ u m n. elim (split s q p k v u (old-leaf-ends u .0 m)) [
-      | inl (e, other) ↦ ap hop-of (struck-elsewhere rs p u (other-leaf s q p k v u e other))
+        ap hop-of (sym (longest-by-leaf (struck rs p) q is-leaf u (and-parts (begins q u) _ e .0)) ∙ struck-elsewhere rs p u (other-twig folded-tree q p struck-end struck-over u e n)));
+    stays = λ u m n. elim (split folded-tree q p struck-end struck-over u (old-leaf-ends u .0 m)) [
+      | inl (e, other) ↦ ap hop-of (struck-elsewhere rs p u (other-leaf folded-tree q p struck-end struck-over u e other))
       | inr j ↦ absurd (n (listed-below _ q u .1 j))
     ];
   }

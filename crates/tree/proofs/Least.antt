@@ -11,7 +11,7 @@ use Rattle.std.specs.declared.option.Option.{Option}
 use Rattle.std.specs.declared.option.Option.the-variants.{Some, None}
 use Rattle.bits.specs.Lists.{different}
 use Rattle.bits.specs.Rows.{Bits}
-use Rattle.tree.specs.Tree.{Route, Routes, Shape, leaf, fork, forks-at, Pushed, grown, pushed, shapes, alike}
+use Rattle.tree.specs.Tree.{Routes, Shape, leaf, fork, forks-at, Pushed, grown, pushed, shapes, alike}
 use Rattle.tree.specs.Graph.{Edge, end, to, Graph, Inside, Closed, more, walk, Leaf-at, Ends-at-leaves, Reads, reads-end, reads-to}
 use Rattle.bits.proofs.Sets.{different-injected}
 use Rattle.tree.specs.LeafLaws.{At-most}

@@ -10,7 +10,7 @@ use lib.ListN.{length}
 use Rattle.std.proofs.shelf.Tests.{both-ways}
 use Rattle.std.proofs.shelf.Ways.{tells}
 use Rattle.bits.specs.Rows.{Bits, begins}
-use Rattle.tree.specs.Tree.{Route, Routes, Shape, leaf, fork, forks-at, grown, pushed, leaves}
+use Rattle.tree.specs.Tree.{Routes, Shape, leaf, fork, forks-at, grown, pushed, leaves}
 use Rattle.tree.specs.LeafLaws.{Leaf-of, At-most}
 use Rattle.tree.proofs.Above.{over, above-is}
 

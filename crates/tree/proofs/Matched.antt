@@ -1,14 +1,15 @@
 -- The leaf of an address, and the matched leaves. Assumes nothing.
 use mathlib.Core.Path.{_≡_, refl, sym, _∙_, ap}
-use mathlib.Core.Logic.{_↔_}
-use mathlib.Core.List.{List, [], _∷_, List·Mem, List·Nodup, nodup-nil, nodup-cons}
+use mathlib.Core.Logic.{_↔_, inl, inr}
+use mathlib.Core.List.{List, [], _∷_, List·Mem, List·Nodup, nodup-cons}
 use mathlib.Core.Bool.{Bool, true, false}
-use Prim.Native.Nat.{ℕ, _≤_}
+use Prim.Native.Nat.{ℕ}
 use native.Mathlib.Omega.{arith}
 use lib.ListN.{length}
+use Rattle.std.specs.Options.{isSome}
 use Rattle.std.specs.declared.option.Option.{Option}
 use Rattle.std.specs.declared.option.Option.the-variants.{Some, None}
-use Rattle.std.proofs.shelf.Tests.{both-ways}
+use Rattle.std.proofs.shelf.Tests.{both-ways, cases-bool}
 use Rattle.bits.specs.Lists.{only}
 use Rattle.bits.specs.Rows.{Bits, begins}
 use Rattle.tree.specs.Tree.{Route, Routes, pushed, leaves, matches, matched, longest, hop-of}
@@ -46,6 +47,14 @@ unmatched-is rs q = (
   λ e. all-none _ rs (λ s m. never _ (longest-none rs q .0 (no-hop _ e) s m)),
   λ h. ap hop-of (longest-none rs q .1 (λ s m. both-ways _ (any-none _ rs h s m))),
 )
+
+-- a row has a hop exactly if it is matched
+pub some-hop : (rs : Routes) (q : Bits) → isSome (hop-of (longest rs q)) ≡ matches rs q
+some-hop rs q = go (hop-of (longest rs q)) refl
+  where
+    go : (o : Option ℕ) → hop-of (longest rs q) ≡ o → isSome o ≡ matches rs q
+    go None e = sym (unmatched-is rs q .0 e)
+    go (Some h) e = elim (cases-bool (matches rs q)) [ inl k ↦ sym k | inr k ↦ (let n = unmatched-is rs q .1 k in cc) ]
 
 module _ (rs : Routes) (a q : Bits) (is-leaf : List·Mem q (leaves (pushed rs) [])) (front : begins q a ≡ true) where
   pub match-by-leaf : longest rs q ≡ longest rs a

@@ -1,14 +1,14 @@
 -- The nodes of a tree, the trees below them, and the leaves and shapes in their words. Assumes nothing.
 use mathlib.Core.Path.{_≡_, refl, sym, _∙_, ap}
-use mathlib.Core.Logic.{_↔_, _⊎_, inl, inr, ∥∥₁-elim, ∥∥₁-map}
-use mathlib.Core.List.{List, [], _∷_, _++_, List·Mem, List·Mem-prop, List·Memᴰ, List·Memᴰ·head, List·Memᴰ·tail, List·Memᴰ·not-nil, List·Memᴰ·append-cases, mem-cons-self, mem-cons-of-mem, mem-append-left, mem-append-right}
+use mathlib.Core.Logic.{_↔_, inl, inr, ∥∥₁-elim, ∥∥₁-map}
+use mathlib.Core.List.{[], _∷_, _++_, List·Mem, List·Mem-prop, List·Memᴰ, List·Memᴰ·head, List·Memᴰ·tail, List·Memᴰ·not-nil, List·Memᴰ·append-cases, mem-cons-self, mem-cons-of-mem, mem-append-left, mem-append-right}
 use mathlib.Core.Bool.{Bool, true, false, not, _&&_, Bool-set}
 use Prim.Native.Nat.{ℕ, _≤_}
 use native.Mathlib.Omega.{arith}
 use lib.ListN.{length}
 use Rattle.std.proofs.shelf.Tests.{true≢false}
 use Rattle.bits.specs.Rows.{Bits}
-use Rattle.tree.specs.Tree.{Routes, Shape, leaf, fork, branching, forks-at, has-node, shape-at, Pushed, grown, pushed, leaves, shapes}
+use Rattle.tree.specs.Tree.{Routes, Shape, leaf, fork, branching, forks-at, has-node, shape-at, grown, pushed, leaves, shapes}
 use Rattle.tree.specs.TreeLaws.{Held}
 use Rattle.tree.specs.LeafLaws.{At-most}
 use Rattle.tree.proofs.Above.{over}

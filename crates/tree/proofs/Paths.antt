@@ -1,21 +1,21 @@
 -- The shapes on the path to a prefix: what a change brings lies on it. Assumes nothing.
-use mathlib.Core.Path.{_≡_, refl, sym, _∙_, ap}
-use mathlib.Core.Logic.{_↔_, inl, inr, ∥∥₁-elim, ∥∥₁-map}
+use mathlib.Core.Path.{_≡_, refl, sym, _∙_}
+use mathlib.Core.Logic.{_↔_, ∥∥₁-elim, ∥∥₁-map}
 use mathlib.Core.List.{List, [], _∷_, _++_, List·Mem, List·Mem-prop, List·Memᴰ, List·Memᴰ·head, List·Memᴰ·tail, List·Memᴰ·not-nil, mem-cons-self, mem-cons-of-mem}
-use mathlib.Core.Bool.{Bool, true, false, cond, not, _&&_, _||_, Bool-set}
+use mathlib.Core.Bool.{Bool, true, false, cond, not, _||_}
 use Prim.Native.Nat.{ℕ, suc, _+_, _≤_}
 use native.Mathlib.Omega.{arith}
 use lib.ListN.{length}
-use Rattle.std.proofs.shelf.Tests.{true≢false, both-ways}
-use Rattle.bits.specs.Lists.{any, only, different}
+use Rattle.std.proofs.shelf.Tests.{true≢false}
+use Rattle.bits.specs.Lists.{any, different}
 use Rattle.bits.specs.Rows.{Bits}
-use Rattle.tree.specs.Tree.{Routes, Shape, leaf, fork, above, alike, forks-at, shape-at, pushed, shapes}
-use Rattle.tree.specs.Ledger.{stands, struck, entered, vertices, new-shapes, together}
+use Rattle.tree.specs.Tree.{Routes, Shape, leaf, fork, above, alike, forks-at, shape-at, grown, pushed, shapes}
+use Rattle.tree.specs.Ledger.{stands, entered, vertices, new-shapes, together}
 use Rattle.tree.specs.Changes.{on-path}
 use Rattle.tree.specs.ShapeLaws.{Changed, by-entering, by-striking, brought}
 use Rattle.bits.proofs.Tests.{never}
 use Rattle.bits.proofs.Members.{any-join, length-only, count-most, has-member}
-use Rattle.bits.proofs.Sets.{Within, any-only, different-by-members, different-mono, different-append, different-at-most}
+use Rattle.bits.proofs.Sets.{any-only, different-by-members, different-mono, different-append, different-at-most}
 use Rattle.tree.proofs.Above.{over, above-is}
 use Rattle.tree.proofs.Shapes.{alike-equality}
 use Rattle.tree.proofs.Changes.{entering-beside, striking-beside}
@@ -157,3 +157,13 @@ rehopping rs p h s = nothing-new rs (entered rs p h) (pushed-by-prefixes (entere
 
 pub one-step : (s : Shape) (ss : List Shape) → different alike (s ∷ ss) ≡ cond (any (alike s) ss) (different alike ss) (suc (different alike ss))
 one-step s ss = grind arith
+
+pub never-fewer : (ss ts : List Shape) → different alike ts ≤ different alike (ss ++ ts)
+never-fewer ss ts = different-mono alike-equality _ _ (λ s h. let a = any-join (alike s) ss ts in grind arith)
+
+-- the path of a grown tree is its top and the path below
+pub path-step : (b : Bool) (p : Bits) (t : Shape) → on-path (grown (b ∷ p) t) (b ∷ p) ≡ grown (b ∷ p) t ∷ on-path (grown p (shape-at t (b ∷ []))) p
+path-step true p leaf = refl
+path-step false p leaf = refl
+path-step true p (fork l r) = refl
+path-step false p (fork l r) = refl

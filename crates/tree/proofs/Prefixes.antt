@@ -1,18 +1,16 @@
 -- What depends on the prefixes of a list of routes alone, and which prefixes a change leaves. Assumes nothing.
-use mathlib.Core.Path.{_≡_, refl, sym, _∙_, ap}
-use mathlib.Core.Logic.{inl, inr}
+use mathlib.Core.Path.{_≡_, sym, _∙_}
 use mathlib.Core.List.{[], _∷_, List·Memᴰ, List·Memᴰ·head, List·Memᴰ·tail, List·Memᴰ·not-nil}
-use mathlib.Core.Bool.{Bool, true, false, not, _&&_, _||_}
+use mathlib.Core.Bool.{Bool, true, not, _&&_, _||_}
 use Prim.Native.Nat.{ℕ}
 use native.Mathlib.Omega.{arith}
-use Rattle.std.proofs.shelf.Tests.{cases-bool}
 use Rattle.bits.specs.Lists.{any}
 use Rattle.bits.specs.Rows.{Bits, same, begins}
-use Rattle.tree.specs.Tree.{Route, Routes, branching, above, pushed, matches}
+use Rattle.tree.specs.Tree.{Route, Routes, above, pushed, matches}
 use Rattle.tree.specs.Ledger.{stands, struck, entered}
 use Rattle.tree.specs.TreeLaws.{Same-prefixes}
-use Rattle.bits.proofs.Tests.{same-is, any-only, any-like}
-use Rattle.bits.proofs.Members.{same-self, same-swap}
+use Rattle.bits.proofs.Tests.{same-is}
+use Rattle.bits.proofs.Members.{same-self}
 use Rattle.tree.proofs.Pushed.{one-tree, pushed-is}
 
 any-stands : (f : Bits → Bool) (ss : Routes) (p : Bits) → stands ss p ≡ true → f p ≡ true → any (λ r. f (r .at)) ss ≡ true

@@ -1,17 +1,15 @@
 -- The law over runs, from the answers and the state. Assumes nothing.
-use mathlib.Core.Path.{_≡_, refl, sym, _∙_, ap, ap₂, subst}
+use mathlib.Core.Path.{_≡_, refl, sym, _∙_, ap, subst}
 use mathlib.Core.Logic.{_↔_}
 use mathlib.Core.List.{List, [], _∷_, _++_}
-use mathlib.Core.Bool.{Bool, true, false}
-use Prim.Native.Nat.{ℕ, zero, suc, _≤_, _<_}
+use Prim.Native.Nat.{ℕ, zero, suc, _<_}
 use native.Mathlib.Omega.{arith}
 use lib.ListN.{length, getD, take}
 use Rattle.refusal.specs.declared.Refusal.the-variants.{VerticesFull}
-use Rattle.bits.specs.Rows.{Bits}
 use Rattle.tree.specs.Tree.{Routes, matched}
 use Rattle.tree.specs.Graph.{Graph}
 use Rattle.tree.specs.Ledger.{Given, Call, lookup, count, Answer, none, counts, refused, vertex-slots, together, turn, after-calls, answers}
-use Rattle.tree.specs.Law.{Map, Tells, asked, Passed, standing, At, State, Law}
+use Rattle.tree.specs.Law.{Map, Tells, asked, standing, At, State, Law}
 use Rattle.tree.proofs.Tells.{tells}
 use Rattle.tree.proofs.Sounds.{starts-sound, always-sound, full-exactly}
 

@@ -1,7 +1,7 @@
 -- `alike` tells equality. Assumes nothing.
 use mathlib.Core.Path.{_≡_, refl}
 use mathlib.Core.Logic.{_↔_}
-use mathlib.Core.Bool.{true, _&&_}
+use mathlib.Core.Bool.{true}
 use native.Mathlib.Omega.{arith}
 use Rattle.std.proofs.shelf.Tests.{and-parts}
 use Rattle.tree.specs.Tree.{Shape, leaf, fork, alike}

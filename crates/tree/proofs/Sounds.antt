@@ -3,8 +3,8 @@ use mathlib.Core.Path.{_≡_, refl, sym, _∙_, ap, ap₂}
 use mathlib.Core.Logic.{_↔_, _⊎_, inl, inr, ∥∥₁-elim}
 use mathlib.Core.HLevel.{×-prop}
 use mathlib.Core.List.{List, [], _∷_, List·Mem, List·Memᴰ, List·Memᴰ·head, List·Memᴰ·tail, List·Memᴰ·not-nil, not-mem-nil, forall-mem-cons}
-use mathlib.Core.Bool.{Bool, true, false, not, _&&_, _||_}
-use Prim.Native.Nat.{ℕ, suc, _+_, _≤_, _<_}
+use mathlib.Core.Bool.{Bool, true, false, not, _&&_}
+use Prim.Native.Nat.{ℕ, suc, _≤_, _<_}
 use native.Mathlib.Nat.{ℕ-set}
 use native.Mathlib.Omega.{arith}
 use native.Mathlib.Bridge.{le-prop}
@@ -16,10 +16,10 @@ use Rattle.std.proofs.shelf.Tests.{cases-bool, both-ways, ltb-false, ltb-true, 
 use Rattle.refusal.specs.declared.Refusal.{Refusal}
 use Rattle.refusal.specs.declared.Refusal.the-variants.{VerticesFull}
 use Rattle.bits.specs.Rows.{Bits, same, begins}
-use Rattle.tree.specs.Tree.{Route, Routes, pushed, matched}
-use Rattle.tree.specs.Ledger.{Given, Call, announce, withdraw, lookup, count, Answer, changed, refused, greatest-hop, vertex-slots, stands, struck, entered, vertices, new-shapes, together, announce-checks, withdraw-checks, decided, looked, turn, after-calls}
-use Rattle.tree.specs.Law.{asked, Passed, Passed-announce, Passed-withdraw}
-use Rattle.tree.specs.LeafLaws.{At-most, Best}
+use Rattle.tree.specs.Tree.{Route, Routes}
+use Rattle.tree.specs.Ledger.{Given, Call, announce, withdraw, lookup, count, changed, refused, vertex-slots, stands, struck, entered, new-shapes, together, announce-checks, withdraw-checks, decided, turn, after-calls}
+use Rattle.tree.specs.Law.{asked, Passed}
+use Rattle.tree.specs.LeafLaws.{Best}
 use Rattle.tree.specs.LedgerLaws.{Once, Sound}
 use Rattle.bits.proofs.Tests.{same-is, only-is}
 use Rattle.bits.proofs.Members.{same-self}

@@ -2,17 +2,16 @@
 use mathlib.Core.Path.{_≡_, refl, sym, _∙_, ap, ap₂}
 use mathlib.Core.Logic.{_↔_, _⊎_, inl, inr, ∥∥₁-elim}
 use mathlib.Core.HLevel.{⊥-prop}
-use mathlib.Core.List.{List, [], _∷_, map, List·Mem, List·Mem-prop, List·Memᴰ, List·Memᴰ·head, List·Memᴰ·tail, List·Memᴰ·not-nil, mem-cons-self, mem-cons-of-mem, List·Nodup, nodup-nil, nodup-cons}
-use mathlib.Core.Bool.{Bool, true, false, cond, not, _&&_, _||_, Bool-set}
-use Prim.Native.Nat.{ℕ, _≤_}
+use mathlib.Core.List.{[], _∷_, map, List·Mem, List·Memᴰ, List·Memᴰ·head, List·Memᴰ·tail, List·Memᴰ·not-nil, mem-cons-of-mem, List·Nodup, nodup-nil, nodup-cons}
+use mathlib.Core.Bool.{true, false, cond}
+use Prim.Native.Nat.{ℕ}
 use native.Mathlib.Nat.{ℕ-set}
 use native.Mathlib.Omega.{arith}
-use lib.ListN.{length}
 use Rattle.std.specs.Options.{isSome}
 use Rattle.std.specs.declared.option.Option.{Option}
 use Rattle.std.specs.declared.option.Option.the-variants.{Some, None}
-use Rattle.std.proofs.shelf.Tests.{cases-bool, both-ways, true≢false}
-use Rattle.bits.specs.Lists.{any, only}
+use Rattle.std.proofs.shelf.Tests.{cases-bool, both-ways}
+use Rattle.bits.specs.Lists.{any}
 use Rattle.bits.specs.Rows.{Bits, same}
 use Rattle.tree.specs.Tree.{Route, Routes, pushed, leaves, matches, matched, longest, hop-of}
 use Rattle.tree.specs.Graph.{Graph, Closed, Reads, One-for-each}
@@ -26,7 +25,7 @@ use Rattle.bits.proofs.Members.{same-self, same-swap, has-row, same-equality}
 use Rattle.bits.proofs.Sets.{any-only}
 use Rattle.tree.proofs.Prefixes.{member-stands}
 use Rattle.tree.proofs.Covers.{struck-drop, struck-keep}
-use Rattle.tree.proofs.Matched.{matched-is, unmatched-is}
+use Rattle.tree.proofs.Matched.{matched-is, some-hop}
 use Rattle.tree.proofs.Walks.{reads-end-at-leaves}
 use Rattle.tree.proofs.Least.{least}
 
@@ -74,13 +73,6 @@ by-entries m n P is = (
 
 pub routes-told : (rs : Routes) (m : Map) → Once rs → Routes-told rs m ↔ ((p : Bits) → m p ≡ hop-at rs p)
 routes-told rs m once = by-entries m (hop-at rs) _ (λ p h. told-at rs p h once)
-
-some-hop : (rs : Routes) (q : Bits) → isSome (hop-of (longest rs q)) ≡ matches rs q
-some-hop rs q = go (hop-of (longest rs q)) refl
-  where
-    go : (o : Option ℕ) → hop-of (longest rs q) ≡ o → isSome o ≡ matches rs q
-    go None e = sym (unmatched-is rs q .0 e)
-    go (Some h) e = elim (cases-bool (matches rs q)) [ inl k ↦ sym k | inr k ↦ (let n = unmatched-is rs q .1 k in cc) ]
 
 entry-is : (rs : Routes) (q : Bits) (h : ℕ) → (leaf-entry rs q ≡ Some h) ↔ (List·Mem q (matched rs) × (hop-of (longest rs q) ≡ Some h))
 entry-is rs q h = (forth (cases-bool (any (same q) (leaves (pushed rs) []))), λ (m, e). (let l = has-row q _ .0 (matched-is rs q .0 m .0) in rw l e))

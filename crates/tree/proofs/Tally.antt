@@ -1,9 +1,9 @@
 -- How many leaves of a tree pass a test, from the top down. Assumes nothing.
 use mathlib.Core.Path.{_≡_, refl, sym, _∙_, ap}
 use mathlib.Core.Logic.{inl, inr}
-use mathlib.Core.List.{List, [], _∷_, _++_, append-nil, append-assoc}
-use mathlib.Core.Bool.{Bool, true, false, cond, not, _&&_, _||_}
-use Prim.Native.Nat.{ℕ, suc, _+_, _≤_}
+use mathlib.Core.List.{[], _∷_, _++_, append-nil, append-assoc}
+use mathlib.Core.Bool.{Bool, true, false, cond, not, _||_}
+use Prim.Native.Nat.{ℕ, suc, _+_}
 use native.Mathlib.Omega.{arith}
 use lib.ListN.{length}
 use Rattle.std.proofs.shelf.Tests.{true≢false, cases-bool}
@@ -12,7 +12,6 @@ use Rattle.bits.specs.Rows.{Bits, begins}
 use Rattle.tree.specs.Tree.{Shape, leaf, fork, has-node, shape-at, grown, leaves}
 use Rattle.tree.specs.Changes.{below, unless, painted}
 use Rattle.bits.proofs.Members.{count-join}
-use Rattle.bits.proofs.Begins.{begins-join}
 use Rattle.tree.proofs.Leaves.{ends-at}
 
 abbrev pub tally : (Bits → Bool) → Shape → ℕ

@@ -1,15 +1,14 @@
 -- What a lookup answers, and how long a row's leaf is, in words. Assumes nothing.
 use mathlib.Core.Path.{_≡_, refl, sym, _∙_}
 use mathlib.Core.Logic.{_↔_}
-use mathlib.Core.List.{[], _∷_, List·Mem}
-use mathlib.Core.Bool.{true, false}
-use Prim.Native.Nat.{ℕ, zero, suc, _<_, _≤_}
+use mathlib.Core.List.{[], List·Mem}
+use Prim.Native.Nat.{ℕ, _<_, _≤_}
 use native.Mathlib.Omega.{arith}
 use lib.ListN.{length, take, length-take}
 use lib.Seq.{take-take}
 use Rattle.std.specs.declared.option.Option.{Option}
 use Rattle.std.specs.declared.option.Option.the-variants.{Some, None}
-use Rattle.bits.specs.Rows.{Bits, begins}
+use Rattle.bits.specs.Rows.{Bits}
 use Rattle.tree.specs.Tree.{Route, Routes, pushed, leaves, longest, hop-of}
 use Rattle.tree.specs.Graph.{Leaf-at}
 use Rattle.tree.specs.Ledger.{looked}

@@ -1,15 +1,15 @@
 -- The leaves below a node, and what the leaves are once the tree has grown below one of them. Assumes nothing.
 use mathlib.Core.Path.{_≡_, refl, sym, _∙_, ap, ap₂}
 use mathlib.Core.Logic.{_↔_, _⊎_, inl, inr, ∥∥₁-elim}
-use mathlib.Core.List.{List, [], _∷_, _++_, append-assoc, List·Mem, List·Mem-prop}
+use mathlib.Core.List.{[], _∷_, _++_, append-assoc, List·Mem, List·Mem-prop}
 use mathlib.Core.Bool.{Bool, true, false, not, _&&_, _||_}
-use Prim.Native.Nat.{ℕ, suc, _+_, _-_}
+use Prim.Native.Nat.{suc, _+_, _-_}
 use native.Mathlib.Omega.{arith}
 use lib.ListN.{length, drop, length-append}
 use Rattle.std.proofs.shelf.Tests.{true≢false, and-parts, and-from}
 use Rattle.bits.specs.Lists.{any}
 use Rattle.bits.specs.Rows.{Bits, same, begins}
-use Rattle.tree.specs.Tree.{Routes, Shape, leaf, fork, has-node, shape-at, grown, leaves}
+use Rattle.tree.specs.Tree.{Shape, leaf, fork, has-node, shape-at, grown, leaves}
 use Rattle.tree.specs.Changes.{twigs}
 use Rattle.tree.specs.HopLaws.{Beside-way}
 use Rattle.bits.proofs.Members.{any-join, has-row}

@@ -1,16 +1,15 @@
 -- A graph with one vertex for each different branching shape. Assumes nothing.
-use mathlib.Core.Path.{_≡_, refl, sym, _∙_}
-use mathlib.Core.Logic.{_↔_, ∥∥₁-map}
-use mathlib.Core.List.{List, [], _∷_, List·Mem, List·Nodup}
-use mathlib.Core.Bool.{Bool, true, false}
+use mathlib.Core.Path.{_≡_, _∙_}
+use mathlib.Core.Logic.{∥∥₁-map}
+use mathlib.Core.List.{List, List·Mem, List·Nodup}
 use Prim.Native.Nat.{ℕ, _≤_}
 use native.Mathlib.Omega.{arith}
 use lib.Dec.{eqb}
 use lib.ListN.{length}
 use Rattle.std.proofs.shelf.Ways.{tells}
-use Rattle.bits.specs.Lists.{any, different}
+use Rattle.bits.specs.Lists.{different}
 use Rattle.tree.specs.Tree.{Routes, Shape, alike, pushed, shapes}
-use Rattle.tree.specs.Graph.{Edge, to, Graph, Closed, Reads, One-for-each}
+use Rattle.tree.specs.Graph.{to, Graph, Closed, Reads, One-for-each}
 use Rattle.bits.proofs.Sets.{Equality, different-injected, different-no-repeats}
 use Rattle.bits.proofs.Members.{has-member}
 use Rattle.bits.proofs.Each.{each-once, length-each, any-each, no-repeats}

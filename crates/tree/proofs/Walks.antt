@@ -1,20 +1,18 @@
 -- A graph whose start has the tree's shape ends each walk at its leaf's depth. Assumes nothing.
 use mathlib.Core.Path.{_≡_, refl, sym, _∙_, ap}
-use mathlib.Core.Logic.{_↔_, _⊎_, inl, inr}
 use mathlib.Core.List.{[], _∷_}
 use mathlib.Core.Bool.{Bool, true, false}
-use Prim.Native.Nat.{ℕ, _≤_, _<_}
+use Prim.Native.Nat.{ℕ, _<_}
 use native.Mathlib.Omega.{arith}
-use lib.ListN.{length, take}
-use Rattle.std.specs.declared.option.Option.{Option}
-use Rattle.std.specs.declared.option.Option.the-variants.{Some, None}
+use lib.ListN.{length}
+use Rattle.std.specs.declared.option.Option.the-variants.{Some}
 use Rattle.std.proofs.shelf.Tests.{both-ways}
 use Rattle.bits.specs.Rows.{Bits}
-use Rattle.tree.specs.Tree.{Routes, Shape, leaf, fork, branching, pushed}
-use Rattle.tree.specs.Graph.{Edge, end, to, Graph, more, walk, Leaf-at, Ends-at-leaves, Reads, reads-end, reads-to}
+use Rattle.tree.specs.Tree.{Routes, Shape, pushed}
+use Rattle.tree.specs.Graph.{Edge, Graph, more, walk, Leaf-at, Ends-at-leaves, Reads, reads-end, reads-to}
 use Rattle.tree.specs.LeafLaws.{At-most}
 use Rattle.tree.proofs.Pushed.{pushed-is}
-use Rattle.tree.proofs.Least.{Fits, fits-pushed, descent, Leaf-of, leaf-of, follows-start, reads-of-follows}
+use Rattle.tree.proofs.Least.{fits-pushed, descent, Leaf-of, leaf-of, follows-start, reads-of-follows}
 
 pub walk-descends : (edge : ℕ → Bool → Edge) {e : Edge} {t : Shape} → Reads edge e t → (a : Bits) → walk edge e a ≡ descent t a
 walk-descends edge reads-end a = refl

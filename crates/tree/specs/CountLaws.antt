@@ -29,6 +29,8 @@ pub record Count-laws : Type 0 where
   -- struck: the leaves that the route decided go where no shorter route takes them over
   pub strikes-node : (rs : Routes) (p : Bits) → stands rs p ≡ true → has-node (pushed (struck rs p)) p ≡ true
       → held rs ≡ held (struck rs p) + count (unmatched (struck rs p)) (reach rs p)
+  pub strikes-covered : (rs : Routes) (p : Bits) → stands rs p ≡ true → has-node (pushed (struck rs p)) p ≡ true → matches (struck rs p) p ≡ true → held rs ≡ held (struck rs p)
+  pub strikes-bare : (rs : Routes) (p : Bits) → stands rs p ≡ true → has-node (pushed (struck rs p)) p ≡ true → matches (struck rs p) p ≡ false → held rs ≡ held (struck rs p) + length (reach rs p)
   pub folds-unmatched : (rs : Routes) (q p : Bits) → stands rs p ≡ true → Leaf (struck rs p) q → above q p ≡ true → matches (struck rs p) q ≡ false → held rs ≡ held (struck rs p) + 1
   pub folds-matched : (rs : Routes) (q p : Bits) → stands rs p ≡ true → Leaf (struck rs p) q → above q p ≡ true → matches (struck rs p) q ≡ true → held rs ≡ held (struck rs p) + (length p - length q)
   pub never-more : (rs : Routes) (p : Bits) → held (struck rs p) ≤ held rs

@@ -3,7 +3,7 @@
 --   Case                 what the ledger knows, a list of calls, and the answers to expect
 --   Example              in each case of the table the ledger's answers are the expected ones
 use mathlib.Core.Path.{_≡_}
-use mathlib.Core.List.{List, [], _∷_, _++_, map}
+use mathlib.Core.List.{List, [], _∷_, map}
 use Prim.Native.Nat.{ℕ}
 use Rattle.refusal.specs.declared.Refusal.the-variants.{Length, HostBits, Hop, Unknown, RoutesFull, LeavesFull}
 use Rattle.bits.specs.Rows.{Bits, word}

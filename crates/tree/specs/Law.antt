@@ -9,12 +9,12 @@
 --   Law g calls given graph routes leaves     what holds of them all after the calls
 use mathlib.Core.Path.{_≡_}
 use mathlib.Core.Logic.{_↔_}
-use mathlib.Core.List.{List, [], _∷_, _++_, List·Mem}
-use mathlib.Core.Bool.{Bool, true, false}
+use mathlib.Core.List.{List, [], List·Mem}
+use mathlib.Core.Bool.{true, false}
 use Prim.Native.Nat.{ℕ, _<_, _≤_}
 use lib.ListN.{length, getD, take, drop}
 use Rattle.std.specs.declared.option.Option.{Option}
-use Rattle.std.specs.declared.option.Option.the-variants.{Some, None}
+use Rattle.std.specs.declared.option.Option.the-variants.{Some}
 use Rattle.refusal.specs.declared.Refusal.the-variants.{VerticesFull}
 use Rattle.bits.specs.Rows.{Bits, begins, any-one}
 use Rattle.tree.specs.Tree.{Route, Routes, matched, longest, hop-of}

@@ -25,7 +25,7 @@ use Rattle.refusal.specs.declared.Refusal.{Refusal}
 use Rattle.refusal.specs.declared.Refusal.the-variants.{Length, HostBits, Hop, Unknown, RoutesFull, LeavesFull, VerticesFull}
 use Rattle.bits.specs.Lists.{any, different, only}
 use Rattle.bits.specs.Rows.{Bits, same, any-one}
-use Rattle.tree.specs.Tree.{Route, Routes, alike, shapes, pushed, matched, longest, hop-of}
+use Rattle.tree.specs.Tree.{Routes, alike, shapes, pushed, matched, longest, hop-of}
 
 pub record Given : Type 0 where
   pub width : ℕ

@@ -4,12 +4,12 @@
 use mathlib.Core.Path.{_≡_}
 use mathlib.Core.Logic.{_↔_}
 use mathlib.Core.List.{List, [], _∷_, _++_, List·Mem}
-use mathlib.Core.Bool.{Bool, true, false, cond, not}
+use mathlib.Core.Bool.{Bool, true, cond, not}
 use Prim.Native.Nat.{ℕ, suc, _+_, _≤_}
 use lib.ListN.{length}
 use Rattle.bits.specs.Lists.{any, only, different}
 use Rattle.bits.specs.Rows.{Bits}
-use Rattle.tree.specs.Tree.{Routes, Shape, leaf, fork, above, alike, forks-at, shape-at, pushed, shapes}
+use Rattle.tree.specs.Tree.{Routes, Shape, fork, above, alike, forks-at, shape-at, grown, pushed, shapes}
 use Rattle.tree.specs.Ledger.{stands, struck, entered, vertices, new-shapes, together}
 use Rattle.tree.specs.Changes.{on-path}
 
@@ -35,6 +35,8 @@ pub record Shape-laws : Type 0 where
   pub together-is : (rs ss : Routes) → together rs ss ≡ vertices rs + new-shapes rs ss
   pub together-by-path : (rs ss : Routes) (p : Bits) → Changed rs p ss → together rs ss ≡ different alike (on-path (pushed ss) p ++ shapes (pushed rs))
   pub one-step : (s : Shape) (ss : List Shape) → different alike (s ∷ ss) ≡ cond (any (alike s) ss) (different alike ss) (suc (different alike ss))
+  pub never-fewer : (ss ts : List Shape) → different alike ts ≤ different alike (ss ++ ts)
+  pub path-step : (b : Bool) (p : Bits) (t : Shape) → on-path (grown (b ∷ p) t) (b ∷ p) ≡ grown (b ∷ p) t ∷ on-path (grown p (shape-at t (b ∷ []))) p
   pub at-most-path : (rs ss : Routes) (p : Bits) → Changed rs p ss → new-shapes rs ss ≤ length p
   -- what is there afterwards is among both
   pub after-within : (rs ss : Routes) → vertices ss ≤ together rs ss

@@ -5,11 +5,10 @@
 --   Leaves-told rs m     the map m has exactly the matched leaves with their hops, in words
 use mathlib.Core.Path.{_≡_}
 use mathlib.Core.Logic.{_↔_}
-use mathlib.Core.List.{List, [], _∷_, map, List·Mem, List·Nodup}
-use mathlib.Core.Bool.{Bool, true, false, cond}
+use mathlib.Core.List.{[], _∷_, map, List·Mem, List·Nodup}
+use mathlib.Core.Bool.{cond}
 use Prim.Native.Nat.{ℕ}
 use Rattle.std.specs.Options.{isSome}
-use Rattle.std.specs.declared.option.Option.{Option}
 use Rattle.std.specs.declared.option.Option.the-variants.{Some, None}
 use Rattle.bits.specs.Lists.{any}
 use Rattle.bits.specs.Rows.{Bits, same}

@@ -1,6 +1,6 @@
 use Rattle.tree.proofs.count_laws_stand.Needs as need
 use Rattle.tree.proofs.Twigs.{twigs-number}
-use Rattle.tree.proofs.Counts.{enters-node, rehops, below-unmatched, below-matched, strikes-node, folds-unmatched, folds-matched, never-more}
+use Rattle.tree.proofs.Counts.{enters-node, rehops, below-unmatched, below-matched, strikes-node, strikes-covered, strikes-bare, folds-unmatched, folds-matched, never-more}
 
 pub returns : need.returns
 returns c = record {
@@ -10,6 +10,8 @@ returns c = record {
   below-unmatched = below-unmatched;
   below-matched = below-matched;
   strikes-node = strikes-node;
+  strikes-covered = strikes-covered;
+  strikes-bare = strikes-bare;
   folds-unmatched = folds-unmatched;
   folds-matched = folds-matched;
   never-more = never-more;

@@ -1,6 +1,6 @@
 use Rattle.tree.proofs.shape_laws_stand.Needs as need
 use Rattle.tree.proofs.Shapes.{alike-is, mirrored}
-use Rattle.tree.proofs.Paths.{on-path-is, on-path-length, only-on-path, new-on-path, together-is, together-by-path, one-step, at-most-path, after-within, rehopping}
+use Rattle.tree.proofs.Paths.{on-path-is, on-path-length, only-on-path, new-on-path, together-is, together-by-path, one-step, never-fewer, path-step, at-most-path, after-within, rehopping}
 
 pub returns : need.returns
 returns c = record {
@@ -13,6 +13,8 @@ returns c = record {
   together-is = together-is;
   together-by-path = together-by-path;
   one-step = one-step;
+  never-fewer = never-fewer;
+  path-step = path-step;
   at-most-path = at-most-path;
   after-within = after-within;
   rehopping = rehopping;
