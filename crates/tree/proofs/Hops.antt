@@ -3,18 +3,19 @@ use mathlib.Core.Path.{_≡_, refl, sym, _∙_, ap}
 use mathlib.Core.Logic.{_↔_, _⊎_, inl, inr, ∥∥₁-elim}
 use mathlib.Core.List.{[], _∷_, _++_, List·Mem}
 use mathlib.Core.Bool.{Bool, true, false, not, _&&_, _||_, Bool-set}
-use Prim.Native.Nat.{ℕ}
+use Prim.Native.Nat.{ℕ, _≤_}
 use native.Mathlib.Omega.{arith}
+use lib.Dec.{ltb}
 use lib.ListN.{length, drop}
 use Rattle.std.specs.declared.option.Option.the-variants.{Some}
-use Rattle.std.proofs.shelf.Tests.{cases-bool, both-ways, and-parts, or-cases}
+use Rattle.std.proofs.shelf.Tests.{cases-bool, both-ways, and-parts, or-cases, and-right, ltb-false, le-ltb}
 use Rattle.bits.specs.Lists.{any}
 use Rattle.bits.specs.Rows.{Bits, same, begins}
-use Rattle.tree.specs.Tree.{Routes, Shape, leaf, above, has-node, shape-at, grown, pushed, leaves, hop-of}
+use Rattle.tree.specs.Tree.{Route, Routes, Shape, leaf, above, has-node, shape-at, grown, pushed, leaves, hop-of}
 use Rattle.tree.specs.Ledger.{stands, struck, entered}
 use Rattle.tree.specs.Changes.{painted, reach}
 use Rattle.tree.specs.HopLaws.{leaf-hop, Leaf, Repaints, Splits, Folds}
-use Rattle.bits.proofs.Tests.{never, same-is}
+use Rattle.bits.proofs.Tests.{never, same-is, any-none, all-none}
 use Rattle.bits.proofs.Members.{has-row, same-self}
 use Rattle.bits.proofs.Begins.{begins-self, begins-trans, begins-rest, begins-cancel}
 use Rattle.tree.proofs.Above.{over, above-is}
@@ -57,6 +58,22 @@ module _ (rs : Routes) (p : Bits) (node : has-node (pushed rs) p ≡ true) where
       let is = painted-is rs t p u in
       let no : any (same u) (painted (stands rs) t p) ≡ false = never _ (λ h. out (has-row u _ .1 h)) in
       grind arith
+
+  pub reach-is : (u : Bits) → List·Mem u (reach rs p) ↔ (Leaf rs u × (begins p u ≡ true) × ((r : Route) → List·Mem r rs → begins (r .at) u ≡ true → length (r .at) ≤ length p))
+  reach-is u = (
+    λ m. let x = reached u m in
+        (x .is-leaf, x .front, λ r k b. (let n = any-none (λ s. ltb (length p) (length (s .at)) && begins (s .at) u) rs (x .free) r k in ltb-false _ _ (grind arith))),
+    λ (l, front, short). elim (cases-bool (any (same u) (reach rs p))) [
+      | inl k ↦ has-row u _ .1 k
+      | inr k ↦ absurd (both-ways _ (all-none (λ s. ltb (length p) (length (s .at)) && begins (s .at) u) rs (λ r m. uncovering r (short r m))) (spared u l (λ m. both-ways _ k (has-row u _ .0 m)) front))
+    ],
+  )
+    where
+      uncovering : (r : Route) → (begins (r .at) u ≡ true → length (r .at) ≤ length p) → (ltb (length p) (length (r .at)) && begins (r .at) u) ≡ false
+      uncovering r h = elim (cases-bool (begins (r .at) u)) [
+        | inl b ↦ (let k = le-ltb _ _ (h b) in grind arith)
+        | inr b ↦ and-right _ _ b
+      ]
 
   pub enters-node : (h : ℕ) → Repaints rs (entered rs p h) p (Some h)
   enters-node h = record {

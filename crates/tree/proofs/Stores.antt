@@ -12,7 +12,7 @@ use Rattle.std.specs.declared.option.Option.{Option}
 use Rattle.std.specs.declared.option.Option.the-variants.{Some, None}
 use Rattle.std.proofs.shelf.Tests.{cases-bool, both-ways}
 use Rattle.bits.specs.Lists.{any}
-use Rattle.bits.specs.Rows.{Bits, same}
+use Rattle.bits.specs.Rows.{Bits, same, begins}
 use Rattle.tree.specs.Tree.{Route, Routes, pushed, leaves, matches, matched, longest, hop-of}
 use Rattle.tree.specs.Graph.{Graph, Closed, Reads, One-for-each}
 use Rattle.tree.specs.Ledger.{stands, struck, entered}
@@ -25,7 +25,7 @@ use Rattle.bits.proofs.Members.{same-self, same-swap, has-row, same-equality}
 use Rattle.bits.proofs.Sets.{any-only}
 use Rattle.tree.proofs.Prefixes.{member-stands}
 use Rattle.tree.proofs.Covers.{struck-drop, struck-keep}
-use Rattle.tree.proofs.Matched.{matched-is, some-hop}
+use Rattle.tree.proofs.Matched.{matched-is, some-hop, match-by-leaf}
 use Rattle.tree.proofs.Walks.{reads-end-at-leaves}
 use Rattle.tree.proofs.Least.{least}
 
@@ -103,6 +103,10 @@ leaves-held rs q =
     let a = any-only same-equality (matches rs) q (leaves (pushed rs) []) in
     let s = some-hop rs q in
     elim (cases-bool (any (same q) (leaves (pushed rs) []))) [ inl l ↦ grind arith | inr l ↦ grind arith ]
+
+-- the entry at an address's leaf
+pub found-at-leaf : (rs : Routes) (a q : Bits) → List·Mem q (leaves (pushed rs) []) → begins q a ≡ true → leaf-entry rs q ≡ hop-of (longest rs a)
+found-at-leaf rs a q l f = let h = has-row q _ .0 l in rw h (ap hop-of (match-by-leaf rs a q l f))
 
 pub struck-hop : (rs : Routes) (p : Bits) (q : Bits) → hop-at (struck rs p) q ≡ cond (same p q) None (hop-at rs q)
 struck-hop [] p q = elim (cases-bool (same p q)) [ inl s ↦ grind arith | inr s ↦ grind arith ]

@@ -4,16 +4,17 @@
 --   Beside-way q p u         u is the sibling of a node on the way from q to p, q left out
 --   Repaints rs ss p o       from rs to ss the tree stays, the leaves that p's route decides have the hop o now, and all others stay
 --   Splits rs ss q p o       the leaf q gives way to p and the leaves beside the way to p; p has the hop o, they have q's, and all others stay
---   Folds rs ss q p          p and the leaves beside the way to it give way to the leaf q, which has their hop, and all others stay
+--   Folds rs ss q p          p and the leaves beside the way to it give way to the leaf q, which has the longest match that is left, as they had; all others stay
 use mathlib.Core.Path.{_≡_}
 use mathlib.Core.Logic.{_↔_, _⊎_}
 use mathlib.Core.List.{[], _∷_, _++_, List·Mem}
 use mathlib.Core.Bool.{Bool, true, not}
-use Prim.Native.Nat.{ℕ}
+use Prim.Native.Nat.{ℕ, _≤_}
+use lib.ListN.{length}
 use Rattle.std.specs.declared.option.Option.{Option}
 use Rattle.std.specs.declared.option.Option.the-variants.{Some}
 use Rattle.bits.specs.Rows.{Bits, begins}
-use Rattle.tree.specs.Tree.{Routes, above, has-node, pushed, leaves, longest, hop-of}
+use Rattle.tree.specs.Tree.{Route, Routes, above, has-node, pushed, leaves, longest, hop-of}
 use Rattle.tree.specs.Ledger.{stands, struck, entered}
 use Rattle.tree.specs.Changes.{reach, twigs}
 
@@ -52,6 +53,9 @@ pub record Folds (rs ss : Routes) (q p : Bits) : Type 0 where
 pub record Hop-laws : Type 0 where
   -- a row is a node of the tree, or lies strictly below one of its leaves
   pub node-or-below : (rs : Routes) (p : Bits) → (has-node (pushed rs) p ≡ true) ⊎ ((q : Bits) × Leaf rs q × (above q p ≡ true))
+  -- the leaves that the route of a node p decides, in words: those below p that no route longer than p is a beginning of
+  pub reach-is : (rs : Routes) (p : Bits) → has-node (pushed rs) p ≡ true → (u : Bits)
+      → List·Mem u (reach rs p) ↔ (Leaf rs u × (begins p u ≡ true) × ((r : Route) → List·Mem r rs → begins (r .at) u ≡ true → length (r .at) ≤ length p))
   -- what a leaf q gives way to, in words: p, and the sibling of each node on the way from q to p
   pub twigs-are : (q p : Bits) → begins q p ≡ true → (u : Bits) → List·Mem u (twigs q p) ↔ ∥ ((u ≡ p) ⊎ Beside-way q p u) ∥₁
   -- a new route at a node, or a standing route's new hop

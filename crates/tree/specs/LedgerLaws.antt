@@ -1,6 +1,6 @@
 -- What the calls keep of the ledger, and that one more call keeps the law over runs. Assumes nothing.
 --   Once rs        no prefix stands twice
---   Sound g rs     the list is one that calls can lead to: each prefix once and no longer than the width, hops in range, no limit exceeded
+--   Sound g rs     what every list has that calls lead to: each prefix once and no longer than the width, hops in range, no limit exceeded
 use mathlib.Core.Path.{_≡_}
 use mathlib.Core.Logic.{_↔_}
 use mathlib.Core.List.{List, [], _∷_, _++_, List·Mem}

@@ -6,12 +6,12 @@
 use mathlib.Core.Path.{_≡_}
 use mathlib.Core.Logic.{_↔_}
 use mathlib.Core.List.{[], _∷_, map, List·Mem, List·Nodup}
-use mathlib.Core.Bool.{cond}
+use mathlib.Core.Bool.{true, cond}
 use Prim.Native.Nat.{ℕ}
 use Rattle.std.specs.Options.{isSome}
 use Rattle.std.specs.declared.option.Option.the-variants.{Some, None}
 use Rattle.bits.specs.Lists.{any}
-use Rattle.bits.specs.Rows.{Bits, same}
+use Rattle.bits.specs.Rows.{Bits, same, begins}
 use Rattle.tree.specs.Tree.{Routes, pushed, leaves, matched, longest, hop-of}
 use Rattle.tree.specs.Graph.{Graph, Closed, Reads, One-for-each}
 use Rattle.tree.specs.Ledger.{stands, struck, entered}
@@ -41,6 +41,8 @@ pub record Store-laws : Type 0 where
   pub routes-listed : (rs : Routes) (p : Bits) → any (same p) (map (λ r. r .at) rs) ≡ stands rs p
   pub routes-held : (rs : Routes) (p : Bits) → isSome (hop-at rs p) ≡ stands rs p
   pub leaves-held : (rs : Routes) (q : Bits) → isSome (leaf-entry rs q) ≡ any (same q) (matched rs)
+  -- what the leaf store has at an address's leaf is the address's longest match
+  pub found-at-leaf : (rs : Routes) (a q : Bits) → List·Mem q (leaves (pushed rs) []) → begins q a ≡ true → leaf-entry rs q ≡ hop-of (longest rs a)
   -- what a change does to the route store
   pub entered-hop : (rs : Routes) (p : Bits) (h : ℕ) (q : Bits) → hop-at (entered rs p h) q ≡ cond (same p q) (Some h) (hop-at rs q)
   pub struck-hop : (rs : Routes) (p : Bits) (q : Bits) → hop-at (struck rs p) q ≡ cond (same p q) None (hop-at rs q)

@@ -2,7 +2,7 @@ use mathlib.Core.List.{[]}
 use Rattle.tree.proofs.ledger_laws_stand.Needs as need
 use Rattle.tree.proofs.Sounds.{starts-sound, turn-sound, always-sound, full-exactly, granted, refusals-keep, one-best, one-more, as-many, one-less}
 use Rattle.tree.proofs.Runs.{law-holds, law-starts, law-steps}
-use Rattle.tree.proofs.Stores.{routes-told, leaves-told, routes-once, any-prefix, routes-held, leaves-held, entered-hop, struck-hop, state-holds}
+use Rattle.tree.proofs.Stores.{routes-told, leaves-told, routes-once, any-prefix, routes-held, leaves-held, found-at-leaf, entered-hop, struck-hop, state-holds}
 
 pub returns : need.returns
 returns c = record {
@@ -26,6 +26,7 @@ returns c = record {
     routes-listed = any-prefix;
     routes-held = routes-held;
     leaves-held = leaves-held;
+    found-at-leaf = found-at-leaf;
     entered-hop = entered-hop;
     struck-hop = struck-hop;
     state-holds = state-holds;
