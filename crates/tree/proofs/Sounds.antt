@@ -16,8 +16,8 @@ use Rattle.std.proofs.shelf.Tests.{cases-bool, both-ways, ltb-false, ltb-true, 
 use Rattle.refusal.specs.declared.Refusal.{Refusal}
 use Rattle.refusal.specs.declared.Refusal.the-variants.{VerticesFull}
 use Rattle.bits.specs.Rows.{Bits, same, begins}
-use Rattle.tree.specs.Tree.{Route, Routes}
-use Rattle.tree.specs.Ledger.{Given, Call, announce, withdraw, lookup, count, changed, refused, vertex-slots, stands, struck, entered, new-shapes, together, announce-checks, withdraw-checks, decided, turn, after-calls}
+use Rattle.tree.specs.Tree.{Route, Routes, longest, hop-of}
+use Rattle.tree.specs.Ledger.{Given, Call, announce, withdraw, lookup, count, changed, refused, vertex-slots, stands, struck, entered, new-shapes, together, announce-checks, withdraw-checks, decided, turn, after-calls, looked}
 use Rattle.tree.specs.Law.{asked, Passed}
 use Rattle.tree.specs.LeafLaws.{Best}
 use Rattle.tree.specs.LedgerLaws.{Once, Sound}
@@ -28,7 +28,7 @@ use Rattle.tree.proofs.Prefixes.{stands-struck, member-stands}
 use Rattle.tree.proofs.Covers.{struck-drop, struck-keep}
 use Rattle.tree.proofs.Paths.{together-is, after-within, rehopping}
 use Rattle.tree.proofs.Counts.{rehops, never-more}
-use Rattle.tree.proofs.Checks.{last, announce-last, announce-granted, withdraw-last, withdraw-granted}
+use Rattle.tree.proofs.Checks.{last, Came-through, announce-passed, withdraw-passed, announce-last, announce-granted, withdraw-last, withdraw-granted}
 
 once-struck : (rs : Routes) (p : Bits) → Once rs → Once (struck rs p)
 once-struck [] p once = tt
@@ -175,6 +175,35 @@ module _ (g : Given) (rs : Routes) (sound : Sound g rs) where
   granted (withdraw a n) ok fits = grants _ _ _ (withdraw-last g rs a n ok) (le-ltb _ _ fits)
   granted (lookup a) ok fits = absurd ok
   granted count ok fits = absurd ok
+
+-- what was decided tells whether the earlier checks let it through
+through-changed : (o : Option Refusal) (rs after : Routes) (n : ℕ) → decided o rs after .1 ≡ changed n → Came-through o
+through-changed None rs after n e = inl refl
+through-changed (Some r) rs after n e = inl cc
+
+through-full : (o : Option Refusal) (rs after : Routes) → decided o rs after .1 ≡ refused VerticesFull → Came-through o
+through-full None rs after e = inl refl
+through-full (Some r) rs after e = inr (let k : r ≡ VerticesFull = cc in ap Some k)
+
+pub granted-passed : (g : Given) (rs : Routes) (c : Call) (n : ℕ) → turn g rs c .1 ≡ changed n → Passed g rs c
+granted-passed g rs (announce a n h) k e = announce-passed g rs a n h (through-changed (announce-checks g rs a n h) rs _ k e)
+granted-passed g rs (withdraw a n) k e = withdraw-passed g rs a n (through-changed (withdraw-checks g rs a n) rs _ k e)
+granted-passed g rs (lookup a) k e = no-change (hop-of (longest rs a)) e
+  where
+    no-change : (o : Option ℕ) → looked o ≡ changed k → ⊥
+    no-change None x = let z : _≡_ {A = ℕ} 0 1 = cc in omega arith
+    no-change (Some h) x = let z : _≡_ {A = ℕ} 0 1 = cc in omega arith
+granted-passed g rs count k e = let z : _≡_ {A = ℕ} 0 1 = cc in omega arith
+
+pub full-passed : (g : Given) (rs : Routes) (c : Call) → turn g rs c .1 ≡ refused VerticesFull → Passed g rs c
+full-passed g rs (announce a n h) e = announce-passed g rs a n h (through-full (announce-checks g rs a n h) rs _ e)
+full-passed g rs (withdraw a n) e = withdraw-passed g rs a n (through-full (withdraw-checks g rs a n) rs _ e)
+full-passed g rs (lookup a) e = no-refusal (hop-of (longest rs a)) e
+  where
+    no-refusal : (o : Option ℕ) → looked o ≡ refused VerticesFull → ⊥
+    no-refusal None x = let z : _≡_ {A = ℕ} 0 1 = cc in omega arith
+    no-refusal (Some h) x = let z : _≡_ {A = ℕ} 0 1 = cc in omega arith
+full-passed g rs count e = let z : _≡_ {A = ℕ} 0 1 = cc in omega arith
 
 kept : (o : Option Refusal) (rs after : Routes) (r : Refusal) → decided o rs after .1 ≡ refused r → decided o rs after .0 ≡ rs
 kept None rs after r e = cc

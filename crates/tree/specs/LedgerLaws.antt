@@ -36,6 +36,9 @@ pub record Ledger-laws : Type 0 where
   -- a change that passes the earlier checks is refused for the vertices exactly when the shapes before and after, as one set, exceed their slots; else it is granted
   pub full-exactly : (g : Given) (rs : Routes) (c : Call) → Sound g rs → Passed g rs c → (turn g rs c .1 ≡ refused VerticesFull) ↔ (vertex-slots < together rs (asked rs c))
   pub granted : (g : Given) (rs : Routes) (c : Call) → Sound g rs → Passed g rs c → together rs (asked rs c) ≤ vertex-slots → turn g rs c ≡ (asked rs c, changed (new-shapes rs (asked rs c)))
+  -- whatever is granted or refused for the vertices passed the earlier checks
+  pub granted-passed : (g : Given) (rs : Routes) (c : Call) (n : ℕ) → turn g rs c .1 ≡ changed n → Passed g rs c
+  pub full-passed : (g : Given) (rs : Routes) (c : Call) → turn g rs c .1 ≡ refused VerticesFull → Passed g rs c
   -- a refusal leaves the list as it was
   pub refusals-keep : (g : Given) (rs : Routes) (c : Call) (r : Refusal) → turn g rs c .1 ≡ refused r → turn g rs c .0 ≡ rs
   -- among routes without repeats there is one longest match

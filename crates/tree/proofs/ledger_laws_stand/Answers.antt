@@ -1,6 +1,6 @@
 use mathlib.Core.List.{[]}
 use Rattle.tree.proofs.ledger_laws_stand.Needs as need
-use Rattle.tree.proofs.Sounds.{starts-sound, turn-sound, always-sound, full-exactly, granted, refusals-keep, one-best, one-more, as-many, one-less}
+use Rattle.tree.proofs.Sounds.{starts-sound, turn-sound, always-sound, full-exactly, granted, granted-passed, full-passed, refusals-keep, one-best, one-more, as-many, one-less}
 use Rattle.tree.proofs.Runs.{law-holds, law-starts, law-steps}
 use Rattle.tree.proofs.Stores.{routes-told, leaves-told, routes-once, any-prefix, routes-held, leaves-held, found-at-leaf, entered-hop, struck-hop, state-holds}
 
@@ -12,6 +12,8 @@ returns c = record {
     always-sound = λ g calls. always-sound g [] calls (starts-sound g);
     full-exactly = λ g rs call sound. full-exactly g rs sound call;
     granted = λ g rs call sound. granted g rs sound call;
+    granted-passed = granted-passed;
+    full-passed = full-passed;
     refusals-keep = refusals-keep;
     one-best = one-best;
     one-more = one-more;
