@@ -22,4 +22,6 @@ pub mod Stores
 pub mod Checks
 pub mod Sounds
 pub mod Runs
+pub mod Entries
+pub mod Lengths
 pub mod Worked

@@ -30,7 +30,7 @@ use Rattle.tree.proofs.Paths.{together-is, after-within, rehopping}
 use Rattle.tree.proofs.Counts.{rehops, never-more}
 use Rattle.tree.proofs.Checks.{last, Came-through, announce-passed, withdraw-passed, announce-last, announce-granted, withdraw-last, withdraw-granted}
 
-once-struck : (rs : Routes) (p : Bits) → Once rs → Once (struck rs p)
+pub once-struck : (rs : Routes) (p : Bits) → Once rs → Once (struck rs p)
 once-struck [] p once = tt
 once-struck (r ∷ rs) p once = go (cases-bool (same (r .at) p)) (once-struck rs p (once .1))
   where

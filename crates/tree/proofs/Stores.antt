@@ -57,7 +57,7 @@ stands-hop (s ∷ rs) r once (List·Memᴰ·tail m) =
     let other : same (s .at) (r .at) ≡ false = never _ (λ k. both-ways _ (rw (same-is (s .at) (r .at) k) at (once .0)) (member-stands rs r m)) in
     grind arith
 
-told-at : (rs : Routes) (p : Bits) (h : ℕ) → Once rs → (hop-at rs p ≡ Some h) ↔ List·Mem (record { at = p; hop = h }) rs
+pub told-at : (rs : Routes) (p : Bits) (h : ℕ) → Once rs → (hop-at rs p ≡ Some h) ↔ List·Mem (record { at = p; hop = h }) rs
 told-at rs p h once = (hop-stands rs p h, back (which (hop-at rs p)))
   where
     back : ((k : ℕ) × (hop-at rs p ≡ Some k)) ⊎ (hop-at rs p ≡ None) → List·Mem (record { at = p; hop = h }) rs → hop-at rs p ≡ Some h

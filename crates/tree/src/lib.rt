@@ -6,7 +6,7 @@ ghost use Rattle.tree.specs.HopLaws.{Hop-laws};
 ghost use Rattle.tree.specs.LeafLaws.{Leaf-laws, Match-laws};
 ghost use Rattle.tree.specs.LedgerLaws.{Ledger-laws, Run-laws};
 ghost use Rattle.tree.specs.ShapeLaws.{Shape-laws};
-ghost use Rattle.tree.specs.StoreLaws.{Store-laws};
+ghost use Rattle.tree.specs.StoreLaws.{Store-laws, Entry-laws};
 ghost use Rattle.tree.specs.TreeLaws.{Tree-laws, Change-laws};
 
 pub fn worked_example_stands() -> u8
@@ -64,6 +64,7 @@ pub fn ledger_laws_stand() -> u8
     ensures ledger { λ _. ⌜ Ledger-laws ⌝ }
     ensures run { λ _. ⌜ Run-laws ⌝ }
     ensures store { λ _. ⌜ Store-laws ⌝ }
+    ensures entry { λ _. ⌜ Entry-laws ⌝ }
 {
     0
 }
