@@ -51,6 +51,12 @@ table =
     ∷ after-five
     (announce (address 0xc000_0000) 3 15 ∷ lookup (address 0xdfff_ffff) ∷ count ∷ withdraw (address 0xc000_0000) 4 ∷ withdraw (address 0xc000_0001) 4 ∷ withdraw (address 0xc000_0001) 33 ∷ count ∷ [])
     (changed 0 ∷ hop 15 ∷ counts 5 6 3 ∷ refused Unknown ∷ refused HostBits ∷ refused Length ∷ counts 5 6 3 ∷ [])
+    -- mirrored shapes are two
+    ∷ new (announce (address 0x0000_0000) 3 1 ∷ announce (address 0xe000_0000) 3 2 ∷ count ∷ []) (changed 3 ∷ changed 2 ∷ counts 2 2 4 ∷ [])
+    -- a node with a route on a child stays branching
+    ∷ new
+    (announce (address 0x0000_0000) 1 5 ∷ announce (address 0x0000_0000) 2 6 ∷ withdraw (address 0x0000_0000) 2 ∷ count ∷ lookup (address 0x0000_0000) ∷ lookup (address 0x8000_0000) ∷ [])
+    (changed 1 ∷ changed 1 ∷ changed 0 ∷ counts 1 1 1 ∷ hop 5 ∷ none ∷ [])
     -- the longest prefix, and one too long
     ∷ new (announce (address 0xffff_ffff) 32 1 ∷ count ∷ lookup (address 0xffff_fffe) ∷ []) (changed 32 ∷ counts 1 1 32 ∷ none ∷ [])
     ∷ new (announce (address 0x0000_0000) 33 1 ∷ announce (address 0x0000_0001) 33 0 ∷ count ∷ []) (refused Length ∷ refused Length ∷ counts 0 0 0 ∷ [])
