@@ -38,12 +38,14 @@ pub fn line_end(bytes: &[u8], from: usize) -> usize
     }
 }
 
+const MOST_DIGITS: usize = 5;
+
 // The number of one to five decimal digits without a leading zero, 0 itself excepted.
 pub fn decimal(field: &[u8]) -> Option<u32>
     ensures { λ r. ⌜ r ≡ numberOf (now (field .entry)) ⌝ }
 {
     let len = field.len();
-    if len == 0 || len > 5 {
+    if len == 0 || len > MOST_DIGITS {
         return None;
     }
     if len > 1 && field[0] == b'0' {

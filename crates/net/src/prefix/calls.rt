@@ -10,12 +10,15 @@ ghost use Rattle.std.specs.Options.{Cases as BySome};
 ghost use Rattle.bits.specs.Rows.{begins as beginning, halves as bitsOf, padded, same};
 ghost use Rattle.net.specs.Prefix.{row-of, Makes, Prefix-laws};
 
+// The longest prefix has a whole address of the widest family.
+const LONGEST: u64 = 128;
+
 impl Prefix {
     // The prefix of these halves and this length; refused where the length is over 128, then where a bit past it is 1.
     pub fn new(first: u64, second: u64, len: u64) -> Result<Prefix, Refusal>
         ensures { λ r. ⌜ Makes 128 (bitsOf first second) len r ⌝ }
     {
-        if len > 128 {
+        if len > LONGEST {
             return Err(Refusal::Length);
         }
         let made = Prefix::front_of(first, second, len as usize);

@@ -22,7 +22,7 @@ returns-then-b-lt48 c =
       | then-b-lt48·by·then-b-lt48 w ↦ inl (w .if-b-lt48 .taken)
       | then-b-lt48·by·else-b-lt48·then-b-gt57 w ↦ inr (w .if-b-gt57 .taken)
     ])) (c .loop-b .inv)
-    ∙ sym (sized (c .args .field .now) (c .if-len-gt5 .left) (c .if-len-eq0 .left) (elim (c .else-len-gt1 .came) [
+    ∙ sym (sized (c .args .field .now) (c .if-len-gt-MOST-DIGITS .left) (c .if-len-eq0 .left) (elim (c .else-len-gt1 .came) [
       | else-len-gt1·by·then-len-gt1·else-field-eq48 w ↦ inl (w .if-field-eq48 .left)
       | else-len-gt1·by·else-len-gt1 w ↦ inr (w .if-len-gt1 .left)
     ]))
@@ -35,7 +35,7 @@ loop-b-again c =
 pub returns : need.returns
 returns c =
     written-all (c .args .field .now) (c .loop-b .b-index) (c .loop-b .n) (c .loop-b-test .left) (c .loop-b .inv)
-    ∙ sym (sized (c .args .field .now) (c .if-len-gt5 .left) (c .if-len-eq0 .left) (elim (c .else-len-gt1 .came) [
+    ∙ sym (sized (c .args .field .now) (c .if-len-gt-MOST-DIGITS .left) (c .if-len-eq0 .left) (elim (c .else-len-gt1 .came) [
       | else-len-gt1·by·then-len-gt1·else-field-eq48 w ↦ inl (w .if-field-eq48 .left)
       | else-len-gt1·by·else-len-gt1 w ↦ inr (w .if-len-gt1 .left)
     ]))

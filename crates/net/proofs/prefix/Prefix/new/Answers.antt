@@ -7,10 +7,10 @@ use Rattle.net.proofs.prefix.Prefix.new.Needs as need
 
 pub returns-then-made-first : need.returns-then-made-first
 returns-then-made-first c =
-    let lost = some-lost (c .front-of-made .result) (c .args .first) (c .args .second) (c .args .len) (omega arith, omega arith) (c .front-of-made .ensures) (c .if-len-gt128 .left) (⊎-elim inl (λ k. inr (k .1)) (c .then-made-first .either)) in
-    rw (le-ltb 128 (c .args .len) (c .if-len-gt128 .left), lost) refl
+    let lost = some-lost (c .front-of-made .result) (c .args .first) (c .args .second) (c .args .len) (omega arith, omega arith) (c .front-of-made .ensures) (c .if-len-gt-LONGEST .left) (⊎-elim inl (λ k. inr (k .1)) (c .then-made-first .either)) in
+    rw (le-ltb 128 (c .args .len) (c .if-len-gt-LONGEST .left), lost) refl
 
 pub returns : need.returns
 returns c =
-    let kept = none-lost (c .front-of-made .result) (c .args .first) (c .args .second) (c .args .len) (omega arith, omega arith) (c .front-of-made .ensures) (c .if-len-gt128 .left) (c .if-made-first .left) (c .if-made-second .left) in
-    (rw (le-ltb 128 (c .args .len) (c .if-len-gt128 .left), kept) refl, c .front-of-made .ensures)
+    let kept = none-lost (c .front-of-made .result) (c .args .first) (c .args .second) (c .args .len) (omega arith, omega arith) (c .front-of-made .ensures) (c .if-len-gt-LONGEST .left) (c .if-made-first .left) (c .if-made-second .left) in
+    (rw (le-ltb 128 (c .args .len) (c .if-len-gt-LONGEST .left), kept) refl, c .front-of-made .ensures)
