@@ -21,7 +21,7 @@ use Rattle.graph.proofs.Unfold.{leads-of-unfolds, one-edge}
 use Rattle.graph.proofs.View.{parts}
 
 -- an edge that unfolds to a fork leads to a slot
-slot-of : {xs : List Vertex} {e : Edge} {a b : Shape} → Unfolds xs e (fork a b) → (n : ℕ) × (e ≡ To n) × Unfolds xs (To n) (fork a b)
+pub slot-of : {xs : List Vertex} {e : Edge} {a b : Shape} → Unfolds xs e (fork a b) → (n : ℕ) × (e ≡ To n) × Unfolds xs (To n) (fork a b)
 slot-of (unfolds-to {n} u l r) = (n, (cc), unfolds-to u l r)
 
 pub forked : (xs ys : List Vertex) (ss : List Shape) (a b : Shape) (e : Edge) → Kept xs ys → Made xs ys (fork a b) e → Holds xs ss → Holds ys (fork a b ∷ ss)

@@ -10,3 +10,4 @@ pub mod Depth
 pub mod Marking
 pub mod Sweeping
 pub mod Back
+pub mod Growing

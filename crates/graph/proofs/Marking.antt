@@ -16,11 +16,11 @@ use Rattle.graph.specs.declared.edge.Edge.{Edge}
 use Rattle.graph.specs.declared.edge.Edge.the-variants.{End, To}
 use Rattle.graph.specs.declared.vertex.Vertex.{Vertex}
 
-member-left : {A : Type 0} {x : A} {xs : List A} (ys : List A) → List·Memᴰ x xs → List·Memᴰ x (xs ++ ys)
+pub member-left : {A : Type 0} {x : A} {xs : List A} (ys : List A) → List·Memᴰ x xs → List·Memᴰ x (xs ++ ys)
 member-left ys (List·Memᴰ·head e) = List·Memᴰ·head e
 member-left ys (List·Memᴰ·tail m) = List·Memᴰ·tail (member-left ys m)
 
-member-right : {A : Type 0} {x : A} (xs : List A) {ys : List A} → List·Memᴰ x ys → List·Memᴰ x (xs ++ ys)
+pub member-right : {A : Type 0} {x : A} (xs : List A) {ys : List A} → List·Memᴰ x ys → List·Memᴰ x (xs ++ ys)
 member-right [] m = m
 member-right (y ∷ xs) m = List·Memᴰ·tail (member-right xs m)
 

@@ -3,3 +3,4 @@ pub mod Calls
 pub mod Find
 pub mod Keep
 pub mod View
+pub mod Grow

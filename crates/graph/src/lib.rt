@@ -3,6 +3,7 @@ ghost use Rattle.graph.specs.View.{View-laws, Fork-laws, Keep-laws};
 
 mod edge;
 mod fork;
+mod grow;
 mod keep;
 mod table;
 mod vertex;
