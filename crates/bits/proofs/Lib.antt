@@ -1,2 +1,4 @@
 pub mod Tests
 pub mod Sets
+pub mod Fronts
+pub mod Words

@@ -4,11 +4,13 @@
 --   begins p q        q begins with p
 --   any-one p         some bit of the row is 1
 --   word w n          the w lowest bits of the number n, the most significant first
+--   padded w p        the row p, filled up with 0 bits to w bits
 --   halves a b        the 128 bits of two numbers of 64 bits, a's first
 use mathlib.Core.List.{List, [], _∷_, _++_}
 use mathlib.Core.Bool.{Bool, true, false, _&&_, Bool·beq}
-use Prim.Native.Nat.{ℕ, zero, suc, _/_, _%_}
+use Prim.Native.Nat.{ℕ, zero, suc, _-_, _/_, _%_}
 use lib.Dec.{eqb}
+use lib.ListN.{length, replicate}
 use Rattle.bits.specs.Lists.{any}
 
 abbrev pub Bits : Type 0
@@ -31,6 +33,9 @@ any-one p = any (λ b. b) p
 unfoldable pub word : ℕ → ℕ → Bits
 word zero n = []
 word (suc w) n = word w (n / 2) ++ (eqb (n % 2) 1 ∷ [])
+
+abbrev pub padded : ℕ → Bits → Bits
+padded w p = p ++ replicate (w - length p) false
 
 abbrev pub halves : ℕ → ℕ → Bits
 halves a b = word 64 a ++ word 64 b

@@ -1,0 +1,4 @@
+pub mod Rows
+pub mod Prefixes
+pub mod Children
+pub mod Families
