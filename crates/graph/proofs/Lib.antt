@@ -11,3 +11,4 @@ pub mod Marking
 pub mod Sweeping
 pub mod Back
 pub mod Growing
+pub mod Walking

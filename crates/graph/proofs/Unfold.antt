@@ -3,11 +3,11 @@ use mathlib.Core.Path.{_≡_, refl, sym, ap, subst}
 use mathlib.Core.Logic.{∥∥₁-elim, ∥∥₁-map, ∥∥₁-prop}
 use mathlib.Core.HLevel.{×-prop}
 use mathlib.Core.List.{List}
-use mathlib.Core.Bool.{true}
+use mathlib.Core.Bool.{Bool, true, false}
 use Prim.Native.Nat.{ℕ}
 use native.Mathlib.Nat.{ℕ-set}
 use Rattle.tree.specs.Tree.{Shape, leaf}
-use Rattle.graph.specs.Slots.{at, led, Unfolds, unfolds-end, unfolds-to, Leads, Sound}
+use Rattle.graph.specs.Slots.{at, next, led, Unfolds, unfolds-end, unfolds-to, Leads, Sound}
 use Rattle.graph.specs.declared.edge.Edge.{Edge}
 use Rattle.graph.specs.declared.edge.Edge.the-variants.{End, To}
 use Rattle.graph.specs.declared.vertex.Vertex.{Vertex}
@@ -67,3 +67,12 @@ unfolds-kept ys keep unfolds-end = unfolds-end
 unfolds-kept ys keep (unfolds-to {n} u l r) =
     let e = keep n u in
     unfolds-to (rw e u) (rw e (unfolds-kept ys keep l)) (rw e (unfolds-kept ys keep r))
+
+-- to follow an edge never leads astray
+next-leads : (xs : List Vertex) (e : Edge) (b : Bool) → ∥ Sound xs ∥₁ → Leads xs e → Leads xs (next xs e b)
+next-leads xs End b sound h = tt
+next-leads xs (To n) false sound h = ∥∥₁-elim sound (leads-prop xs (at xs n .zero)) λ s. s .leads n h .0
+next-leads xs (To n) true sound h = ∥∥₁-elim sound (leads-prop xs (at xs n .one)) λ s. s .leads n h .1
+
+pub followed-is : (xs : List Vertex) (node e : Edge) (b : Bool) → ∥ Sound xs ∥₁ → e ≡ next xs (led xs node) b → led xs e ≡ e
+followed-is xs node e b sound is = led-is xs e (rw is (next-leads xs (led xs node) b sound (led-leads xs node)))

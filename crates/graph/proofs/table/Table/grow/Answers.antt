@@ -1,4 +1,5 @@
 use Rattle.std.proofs.shelf.Results.{cases-weaker}
+use Rattle.net.specs.Prefix.{row-of}
 use Rattle.tree.specs.Tree.{grown}
 use Rattle.graph.proofs.Growing.{grown-whole, too-many}
 use Rattle.graph.proofs.table.Table.grow.Needs as need
@@ -8,7 +9,7 @@ returns c =
     let xs = c .args .self .now .slots in
     let after = c .grow-below .last .self in
     let path = c .grow-below .ensures in
-    let row = c .args .prefix .now in
+    let row = row-of (c .args .prefix .now) in
     record {
       kept = path .kept;
       grown = λ t ss h held. cases-weaker (c .grow-below .result) (path .path t h)
