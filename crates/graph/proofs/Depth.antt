@@ -10,7 +10,7 @@ use Rattle.std.proofs.shelf.Tests.{cases-bool, or-left, or-right}
 use Rattle.bits.specs.Lists.{any, different}
 use Rattle.tree.specs.Tree.{Shape, leaf, fork, shapes, alike}
 use Rattle.graph.specs.Slots.{Unfolds}
-use Rattle.tree.specs.Laws.{depth}
+use Rattle.graph.specs.Keep.{depth}
 use Rattle.graph.specs.declared.edge.Edge.{Edge}
 use Rattle.graph.specs.declared.vertex.Vertex.{Vertex}
 use Rattle.bits.proofs.Sets.{Within, any-append, member-of-any, different-mono}

@@ -10,8 +10,7 @@ use Rattle.std.proofs.shelf.Tests.{cases-eq}
 use Rattle.std.proofs.shelf.Lists.{getD-set-same, getD-set-other}
 use Rattle.tree.specs.Tree.{Shape, fork, shapes}
 use Rattle.graph.specs.Slots.{at, Unfolds, unfolds-end, unfolds-to}
-use Rattle.tree.specs.Laws.{depth}
-use Rattle.graph.specs.Keep.{marked, Marks, Whole, Reached}
+use Rattle.graph.specs.Keep.{depth, marked, Marks, Whole, Reached}
 use Rattle.graph.specs.declared.edge.Edge.{Edge}
 use Rattle.graph.specs.declared.edge.Edge.the-variants.{End, To}
 use Rattle.graph.specs.declared.vertex.Vertex.{Vertex}

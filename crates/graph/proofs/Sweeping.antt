@@ -11,8 +11,7 @@ use Rattle.std.proofs.shelf.Tests.{cases-bool, cases-eq, cases-lt, both-ways, c
 use Rattle.std.proofs.shelf.Lists.{getD-set-same, getD-set-other, getD-past, getD-replicate, take-more-set, take-all}
 use Rattle.tree.specs.Tree.{Shape, shapes}
 use Rattle.graph.specs.Slots.{blank, at, Unfolds, unfolds-end, unfolds-to, Leads, Sound, in-use}
-use Rattle.tree.specs.Laws.{depth}
-use Rattle.graph.specs.Keep.{marked, Marks, Whole, Reached, Swept, Kept-only}
+use Rattle.graph.specs.Keep.{depth, marked, Marks, Whole, Reached, Swept, Kept-only}
 use Rattle.graph.specs.declared.edge.Edge.{Edge}
 use Rattle.graph.specs.declared.edge.Edge.the-variants.{End, To}
 use Rattle.graph.specs.declared.vertex.Vertex.{Vertex}

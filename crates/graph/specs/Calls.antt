@@ -3,15 +3,18 @@
 --   Unheld xs t         no edge unfolds to t
 --   Made xs ys t e      e leads to the vertex of t, which was found or made
 --   Refused xs ys t w   t is new and all slots are in use
+--   Forked xs ys z o r  r is what `fork` answers for the edges z and o, each taken for what it leads to
 use mathlib.Core.Path.{_≡_}
 use mathlib.Core.List.{List}
 use mathlib.Core.Bool.{true}
 use Prim.Native.Nat.{ℕ, suc, _<_}
 use lib.ListN.{length}
+use Rattle.std.specs.Results.{Cases}
+use Rattle.std.specs.declared.result.Result.{Result}
 use Rattle.refusal.specs.declared.Refusal.{Refusal}
 use Rattle.refusal.specs.declared.Refusal.the-variants.{VerticesFull}
-use Rattle.tree.specs.Tree.{Shape}
-use Rattle.graph.specs.Slots.{at, Unfolds, in-use}
+use Rattle.tree.specs.Tree.{Shape, fork}
+use Rattle.graph.specs.Slots.{at, led, Unfolds, in-use}
 use Rattle.graph.specs.declared.edge.Edge.{Edge}
 use Rattle.graph.specs.declared.edge.Edge.the-variants.{To}
 use Rattle.graph.specs.declared.vertex.Vertex.{Vertex}
@@ -37,3 +40,6 @@ pub record Refused (xs ys : List Vertex) (t : Shape) (why : Refusal) : Type 0 wh
   pub new : Unheld xs t
   pub full : length (in-use xs) ≡ 2048
   pub same : ys ≡ xs
+
+abbrev pub Forked : List Vertex → List Vertex → Edge → Edge → Result Edge Refusal → Type 0
+Forked xs ys z o r = (a b : Shape) → Unfolds xs (led xs z) a → Unfolds xs (led xs o) b → Cases r (Made xs ys (fork a b)) (Refused xs ys (fork a b))

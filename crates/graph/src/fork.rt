@@ -1,17 +1,8 @@
-// An empty table, the number of vertices, and the vertex of two edges.
-ghost use mathlib.Core.Bool.{true, false};
-ghost use mathlib.Core.List.{[]};
-ghost use mathlib.Core.Path.{_≡_};
-ghost use lib.ListN.{length};
-ghost use Prim.Native.Nat.{ℕ, _<_};
-ghost use Rattle.std.specs.Results.{Cases};
-ghost use Rattle.tree.specs.Tree.{Shape, fork as forked};
-ghost use Rattle.graph.specs.Slots.{at, led, in-use, Unfolds};
-ghost use Rattle.graph.specs.Calls.{Kept, Made, Refused};
+// The vertex of two edges: found, or made.
+ghost use Rattle.graph.specs.Calls.{Kept, Forked};
 ghost use Rattle.graph.specs.Find.{Placed};
 use super::edge::Edge;
 use super::table::Table;
-use super::vertex::Vertex;
 use refusal::Refusal;
 
 // Where the vertex of two edges is, or could be.
@@ -23,38 +14,6 @@ pub(super) enum Place {
 }
 
 impl Table {
-    pub fn empty() -> Table
-        ensures { λ r. ⌜ in-use (r .slots) ≡ [] ⌝ }
-    {
-        Table {
-            slots: [Vertex::FREE; 2048],
-            used: 0,
-        }
-    }
-
-    // How many vertices are in use.
-    pub fn count(&self) -> usize
-        ensures { λ r. ⌜ r ≡ length (in-use (now (self .entry) .slots)) ⌝ }
-    {
-        self.used as usize
-    }
-
-    pub(super) fn in_use(&self, n: u16) -> bool
-        ensures { λ r. ⌜ r ≡ at (now (self .entry) .slots) n .used ⌝ }
-    {
-        n < 2048 && self.slots[n as usize].used
-    }
-
-    // The edge itself where it leads to a vertex in use, else the end.
-    pub(super) fn lead(&self, edge: Edge) -> Edge
-        ensures { λ r. ⌜ r ≡ led (now (self .entry) .slots) edge ⌝ }
-    {
-        match edge {
-            Edge::To(n) if self.in_use(n) => edge,
-            _ => Edge::End,
-        }
-    }
-
     // The slot of the vertex with these edges, else the first free one, in one pass.
     fn place(&self, zero: Edge, one: Edge) -> Place
         ensures { λ r. ⌜ Placed (now (self .entry) .slots) zero one r ⌝ }
@@ -76,7 +35,7 @@ impl Table {
     // The edge to the vertex with these edges, which is made where there is none.
     pub fn fork(&mut self, zero: Edge, one: Edge) -> Result<Edge, Refusal>
         ensures kept { λ _. ⌜ Kept (now (self .entry) .slots) (now (self .exit) .slots) ⌝ }
-        ensures forked { λ r. ⌜ ((a b : Shape) → Unfolds (now (self .entry) .slots) (led (now (self .entry) .slots) zero) a → Unfolds (now (self .entry) .slots) (led (now (self .entry) .slots) one) b → Cases r (Made (now (self .entry) .slots) (now (self .exit) .slots) (forked a b)) (Refused (now (self .entry) .slots) (now (self .exit) .slots) (forked a b))) ⌝ }
+        ensures forked { λ r. ⌜ Forked (now (self .entry) .slots) (now (self .exit) .slots) zero one r ⌝ }
     {
         let zero = self.lead(zero);
         let one = self.lead(one);

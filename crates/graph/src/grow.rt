@@ -1,14 +1,8 @@
 // Growing the graph by a prefix: the path to its node is made bottom up, beside what the table has.
-ghost use mathlib.Core.List.{List};
-ghost use mathlib.Core.Path.{_≡_};
 ghost use lib.ListN.{drop};
-ghost use Rattle.std.specs.Results.{Cases};
 ghost use Rattle.net.specs.Prefix.{row-of};
-ghost use Rattle.tree.specs.Tree.{Shape, grown as with-path};
-ghost use Rattle.graph.specs.Slots.{led, Unfolds};
 ghost use Rattle.graph.specs.Calls.{Kept};
-ghost use Rattle.graph.specs.View.{Holds};
-ghost use Rattle.graph.specs.Grow.{Pathed, Stopped, Grown, Overfull};
+ghost use Rattle.graph.specs.Grow.{Paths, Grows};
 use super::edge::Edge;
 use super::table::Table;
 use net::Prefix;
@@ -18,7 +12,7 @@ impl Table {
     // From a node of the prefix's path, `depth` bits down.
     fn grow_below(&mut self, node: Edge, prefix: &Prefix, depth: usize) -> Result<Edge, Refusal>
         ensures kept { λ _. ⌜ Kept (now (self .entry) .slots) (now (self .exit) .slots) ⌝ }
-        ensures path { λ r. ⌜ ((t : Shape) → Unfolds (now (self .entry) .slots) (led (now (self .entry) .slots) node) t → Cases r (Pathed (now (self .entry) .slots) (now (self .exit) .slots) (with-path (drop depth (row-of (now (prefix .entry)))) t)) (Stopped (now (self .entry) .slots) (now (self .exit) .slots) (with-path (drop depth (row-of (now (prefix .entry)))) t))) ⌝ }
+        ensures path { λ r. ⌜ Paths (now (self .entry) .slots) (now (self .exit) .slots) node (drop depth (row-of (now (prefix .entry)))) r ⌝ }
     {
         if depth >= prefix.len() as usize {
             return Ok(self.lead(node));
@@ -37,7 +31,7 @@ impl Table {
     // The edge to the start's tree in which every node above the prefix branches too.
     pub fn grow(&mut self, start: Edge, prefix: &Prefix) -> Result<Edge, Refusal>
         ensures kept { λ _. ⌜ Kept (now (self .entry) .slots) (now (self .exit) .slots) ⌝ }
-        ensures grown { λ r. ⌜ ((t : Shape) (ss : List Shape) → Unfolds (now (self .entry) .slots) (led (now (self .entry) .slots) start) t → Holds (now (self .entry) .slots) ss → Cases r (Grown (now (self .exit) .slots) ss (with-path (row-of (now (prefix .entry))) t)) (Overfull (now (self .exit) .slots) ss (with-path (row-of (now (prefix .entry))) t))) ⌝ }
+        ensures grown { λ r. ⌜ Grows (now (self .entry) .slots) (now (self .exit) .slots) start (row-of (now (prefix .entry))) r ⌝ }
     {
         self.grow_below(start, prefix, 0)
     }

@@ -1,11 +1,8 @@
 // Frees the vertices that an edge does not reach.
 ghost use mathlib.Core.Path.{_≡_};
 ghost use lib.ListN.{length};
-ghost use Prim.Native.Nat.{_≤_};
-ghost use Rattle.tree.specs.Laws.{depth};
-ghost use Rattle.tree.specs.Tree.{Shape};
-ghost use Rattle.graph.specs.Keep.{Whole, Reached, Swept, Kept-only};
-ghost use Rattle.graph.specs.Slots.{in-use, led, Unfolds};
+ghost use Rattle.graph.specs.Keep.{Marked, Swept, Kept-from};
+ghost use Rattle.graph.specs.Slots.{in-use};
 use super::edge::Edge;
 use super::table::Table;
 use super::vertex::Vertex;
@@ -31,7 +28,7 @@ impl Table {
     // Marks the slots that the edge reaches, where its shape is no deeper than the budget. A slot is marked after what lies below it,
     // so that the edges of a marked slot always lead to marked slots. Each slot is entered once, so it costs as much as there is to mark.
     fn mark(&self, marks: &mut [bool; 2048], edge: Edge, budget: u16)
-        ensures { λ _. ⌜ ((t : Shape) → Unfolds (now (self .entry) .slots) edge t → depth t ≤ budget → Whole (now (self .entry) .slots) (now (marks .entry)) → Reached (now (self .entry) .slots) (now (marks .entry)) (now (marks .exit)) edge t) ⌝ }
+        ensures { λ _. ⌜ Marked (now (self .entry) .slots) (now (marks .entry)) (now (marks .exit)) edge budget ⌝ }
     {
         let Edge::To(n) = edge else {
             return;
@@ -47,7 +44,7 @@ impl Table {
 
     // Frees what the start does not reach. The budget is never used up: no shape is deeper than the table has slots.
     pub fn keep_only(&mut self, start: Edge)
-        ensures { λ _. ⌜ ((t : Shape) → Unfolds (now (self .entry) .slots) (led (now (self .entry) .slots) start) t → Kept-only (now (self .entry) .slots) (now (self .exit) .slots) t) ⌝ }
+        ensures { λ _. ⌜ Kept-from (now (self .entry) .slots) (now (self .exit) .slots) start ⌝ }
     {
         let start = self.lead(start);
         let mut marks = [false; 2048];

@@ -1,6 +1,7 @@
 // A table of the vertices of a graph: one slot for each different shape.
 ghost use Rattle.graph.specs.View.{View-laws, Fork-laws, Keep-laws};
 
+mod calls;
 mod edge;
 mod fork;
 mod grow;
