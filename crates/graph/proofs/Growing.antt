@@ -29,6 +29,7 @@ use Rattle.graph.proofs.Edges.{to-is}
 use Rattle.graph.proofs.Unfold.{led-unfolds, unfolds-one}
 use Rattle.graph.proofs.Marking.{member-left, member-right}
 use Rattle.graph.proofs.Back.{slot-of}
+use Rattle.graph.proofs.Count.{length-in-use, tally-at-most}
 use Rattle.graph.proofs.View.{parts, at-most, number}
 
 -- the sides of a tree, where a leaf has leaves
@@ -138,7 +139,7 @@ pub pathed-here : (xs : List Vertex) (node : Edge) (row : Bits) (d : ℕ) (e : E
 pathed-here xs node row d e t past is h = rw (drop-all d row past) (record { unfolds = rw is h; new = new-none xs (shapes t) })
 
 -- the whole path
-module _ (xs ys : List Vertex) (ss : List Shape) (t : Shape) (kept : Kept xs ys) (sound : ∥ Sound ys ∥₁) (held : Holds xs ss) where
+module _ (xs ys : List Vertex) (ss : List Shape) (t : Shape) (kept : Kept xs ys) (sound : ∥ Sound ys ∥₁) (long : length ys ≡ 2048) (held : Holds xs ss) where
   only-grown : New xs ys (shapes t) → (n : ℕ) → at ys n .used ≡ true → ∥ ((s : Shape) × List·Mem s (ss ++ shapes t) × Unfolds ys (To n) s) ∥₁
   only-grown new n u = elim (new n u) [
     | inl old ↦ ∥∥₁-map (held .only n old) λ (s, m, h). (s, ∥∥₁-map m (λ d. member-left (shapes t) d), kept .shapes (To n) s h)
@@ -146,7 +147,7 @@ module _ (xs ys : List Vertex) (ss : List Shape) (t : Shape) (kept : Kept xs ys)
   ]
 
   pub grown-whole : (e : Edge) → Pathed xs ys t e → Grown ys ss t e
-  grown-whole e path = record { unfolds = path .unfolds; holds = holds; number = number ys (ss ++ shapes t) sound holds }
+  grown-whole e path = record { unfolds = path .unfolds; holds = holds; number = count; room = omega (arith, count, length-in-use 0 ys, tally-at-most ys) }
     where
       every : (s : Shape) → List·Memᴰ s (ss ++ shapes t) → ∥ ((n : ℕ) × Unfolds ys (To n) s) ∥₁
       every s d = elim (List·Memᴰ·append-cases ss d) [
@@ -156,6 +157,9 @@ module _ (xs ys : List Vertex) (ss : List Shape) (t : Shape) (kept : Kept xs ys)
 
       holds : Holds ys (ss ++ shapes t)
       holds = record { only = only-grown (path .new); every = λ s m. ∥∥₁-elim m ∥∥₁-prop λ d. every s d }
+
+      count : length (in-use ys) ≡ different alike (ss ++ shapes t)
+      count = number ys (ss ++ shapes t) sound holds
 
   -- a shape that is wanted and not held is one more than those of the slots in use
   pub too-many : (why : Refusal) → Stopped xs ys t why → Overfull ys ss t why

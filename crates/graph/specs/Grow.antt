@@ -10,7 +10,7 @@ use mathlib.Core.Path.{_≡_}
 use mathlib.Core.Logic.{_⊎_}
 use mathlib.Core.List.{List, _++_, List·Mem}
 use mathlib.Core.Bool.{true}
-use Prim.Native.Nat.{ℕ, _<_}
+use Prim.Native.Nat.{ℕ, _<_, _≤_}
 use lib.ListN.{length}
 use Rattle.std.specs.Results.{Cases}
 use Rattle.std.specs.declared.result.Result.{Result}
@@ -46,6 +46,7 @@ pub record Grown (ys : List Vertex) (ss : List Shape) (t : Shape) (e : Edge) : T
   pub unfolds : Unfolds ys e t
   pub holds : Holds ys (ss ++ shapes t)
   pub number : length (in-use ys) ≡ different alike (ss ++ shapes t)
+  pub room : different alike (ss ++ shapes t) ≤ 2048
 
 pub record Overfull (ys : List Vertex) (ss : List Shape) (t : Shape) (why : Refusal) : Type 0 where
   pub why-full : why ≡ VerticesFull

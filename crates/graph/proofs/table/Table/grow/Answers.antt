@@ -13,6 +13,6 @@ returns c =
     record {
       kept = path .kept;
       grown = λ t ss h held. cases-weaker (c .grow-below .result) (path .path t h)
-          (λ e pathed. grown-whole xs (after .slots) ss (grown row t) (path .kept) (after .sound) held e pathed)
-          (λ why stop. too-many xs (after .slots) ss (grown row t) (path .kept) (after .sound) held why stop);
+          (λ e pathed. grown-whole xs (after .slots) ss (grown row t) (path .kept) (after .sound) (after .long) held e pathed)
+          (λ why stop. too-many xs (after .slots) ss (grown row t) (path .kept) (after .sound) (after .long) held why stop);
     }
