@@ -1,0 +1,5 @@
+// How much vertex memory a list of routes takes.
+mod census;
+mod count;
+
+fn main() {}
