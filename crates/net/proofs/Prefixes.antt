@@ -41,6 +41,9 @@ row-is p q e h = rw h (padded-front 128 (p .len) q e)
 pub same-halves : (p q : Prefix) → row-of p ≡ row-of q → (p .first ≡ q .first) × (p .second ≡ q .second)
 same-halves p q e = halves-injective _ _ _ _ (p .fits) (q .fits) (row-padded p ∙ ap (padded 128) e ∙ sym (row-padded q))
 
+pub halves-are : (p : Prefix) (a b : ℕ) → (a < 2 ^ 64) × (b < 2 ^ 64) → halves a b ≡ padded 128 (row-of p) → (a ≡ p .first) × (b ≡ p .second)
+halves-are p a b f e = halves-injective _ _ _ _ f (p .fits) (e ∙ sym (row-padded p))
+
 pub same-length : (p q : Prefix) → row-of p ≡ row-of q → p .len ≡ q .len
 same-length p q e = sym (length-row p) ∙ ap length e ∙ length-row q
 

@@ -1,0 +1,2 @@
+pub mod Rotations
+pub mod Texts
