@@ -21,7 +21,7 @@ use Rattle.tree.proofs.Shapes.{alike-equality}
 use Rattle.graph.specs.Slots.{at, next, led, Unfolds, unfolds-end, unfolds-to, Sound, in-use}
 use Rattle.graph.specs.Calls.{Kept, Unheld, Made, Refused}
 use Rattle.graph.specs.View.{Holds}
-use Rattle.graph.specs.Grow.{New, Pathed, Stopped, Grown, Overfull}
+use Rattle.graph.specs.Grow.{New, Pathed, Stopped, Paths, Grown, Overfull, Grows}
 use Rattle.graph.specs.declared.edge.Edge.{Edge}
 use Rattle.graph.specs.declared.edge.Edge.the-variants.{End, To}
 use Rattle.graph.specs.declared.vertex.Vertex.{Vertex}
@@ -146,7 +146,7 @@ module _ (xs ys : List Vertex) (ss : List Shape) (t : Shape) (kept : Kept xs ys)
     | inr some ↦ ∥∥₁-map some λ (s, m, h). (s, ∥∥₁-map m (λ d. member-right ss d), h)
   ]
 
-  pub grown-whole : (e : Edge) → Pathed xs ys t e → Grown ys ss t e
+  grown-whole : (e : Edge) → Pathed xs ys t e → Grown ys ss t e
   grown-whole e path = record { unfolds = path .unfolds; holds = holds; number = count; room = omega (arith, count, length-in-use 0 ys, tally-at-most ys) }
     where
       every : (s : Shape) → List·Memᴰ s (ss ++ shapes t) → ∥ ((n : ℕ) × Unfolds ys (To n) s) ∥₁
@@ -162,7 +162,7 @@ module _ (xs ys : List Vertex) (ss : List Shape) (t : Shape) (kept : Kept xs ys)
       count = number ys (ss ++ shapes t) sound holds
 
   -- a shape that is wanted and not held is one more than those of the slots in use
-  pub too-many : (why : Refusal) → Stopped xs ys t why → Overfull ys ss t why
+  too-many : (why : Refusal) → Stopped xs ys t why → Overfull ys ss t why
   too-many why stop = record { why-full = stop .why-full; many = many (stop .missing); only = only-grown (stop .new) }
     where
       many : (s : Shape) × List·Mem s (shapes t) × Unheld ys s → 2048 < different alike (ss ++ shapes t)
@@ -180,3 +180,9 @@ module _ (xs ys : List Vertex) (ss : List Shape) (t : Shape) (kept : Kept xs ys)
           most : length (in-use ys) ≤ different alike (without alike s (ss ++ shapes t))
           most = at-most ys (without alike s (ss ++ shapes t)) sound
               (λ n u. ∥∥₁-map (only-grown (stop .new) n u) λ (r, k, h). (r, only-is (λ y. not (alike y s)) (ss ++ shapes t) r .1 (k, other n r h), h))
+
+-- what the path's answer says of the whole
+pub grows : (xs ys : List Vertex) (start : Edge) (row : Bits) (r : Result Edge Refusal) → Kept xs ys → ∥ Sound ys ∥₁ → length ys ≡ 2048 → Paths xs ys start row r → Grows xs ys start row r
+grows xs ys start row r kept sound long paths t ss h held = cases-weaker r (paths t h)
+    (λ e path. grown-whole xs ys ss (grown row t) kept sound long held e path)
+    (λ why stop. too-many xs ys ss (grown row t) kept sound long held why stop)

@@ -3,6 +3,7 @@ use mathlib.Core.Path.{_≡_, refl, sym, _∙_, ap}
 use mathlib.Core.List.{List, [], _∷_}
 use mathlib.Core.Bool.{Bool, true, false}
 use Prim.Native.Nat.{ℕ, suc, _+_, _<_, _≤_}
+use native.Mathlib.Nat.{add-zero}
 use native.Mathlib.Omega.{arith}
 use lib.ListN.{length, getD, drop}
 use Rattle.std.proofs.shelf.Lists.{drop-all, drop-more}
@@ -50,8 +51,9 @@ module _ (xs : List Vertex) (start : Edge) (row : Bits) where
       step : further d (walk (out xs) (way node) (drop d row)) ≡ further d (more (walk (out xs) (way e) (drop (d + 1) row)))
       step = rw (is, drop-more row d false less, to) refl
 
-  pub at-end : (d : ℕ) (node : Edge) → At xs start row d node → node ≡ End → Some d ≡ walk (out xs) (way start) row
-  at-end d node here is = let e : d ≡ d + 0 = omega arith in ap Some e ∙ sym (here .rest ∙ ap (λ f. further d (walk (out xs) (way f) (drop d row))) is)
+  -- at the end, or past the last bit; `first` is where the walk was to start
+  pub at-end : (d : ℕ) (node first : Edge) → At xs start row d node → node ≡ End → start ≡ first → Some d ≡ walk (out xs) (way first) row
+  at-end d node first here is from = rw (← from) (ap Some (sym (add-zero d)) ∙ sym (here .rest ∙ ap (λ f. further d (walk (out xs) (way f) (drop d row))) is))
 
-  pub at-last : (d n : ℕ) (node : Edge) → At xs start row d node → node ≡ To n → length row ≤ d → None ≡ walk (out xs) (way start) row
-  at-last d n node here is past = sym (here .rest ∙ rw (is, drop-all d row past) refl)
+  pub at-last : (d n : ℕ) (node first : Edge) → At xs start row d node → node ≡ To n → length row ≤ d → start ≡ first → None ≡ walk (out xs) (way first) row
+  at-last d n node first here is past from = rw (← from) (sym (here .rest ∙ rw (is, drop-all d row past) refl))

@@ -1,8 +1,5 @@
-use mathlib.Core.Path.{_∙_, ap}
 use native.Mathlib.Omega.{arith}
-use Rattle.tree.specs.Graph.{walk}
 use Rattle.graph.specs.Slots.{led}
-use Rattle.graph.specs.View.{way, out}
 use Rattle.graph.proofs.Edges.{led-is, led-leads}
 use Rattle.graph.proofs.Unfold.{followed-is}
 use Rattle.graph.proofs.Walking.{at-start, at-next, at-end, at-last}
@@ -27,14 +24,13 @@ loop-depth-again g c =
 pub returns-in-End : need.returns-in-End
 returns-in-End g c =
     let xs = c .args .self .now .slots in
-    let row = g .F·Family .row (c .args .address .now) in
     let l = c .loop-depth in
-    at-end xs (c .lead-node .result) row (l .depth) (l .node) (l .inv) (c .in-End .is) ∙ ap (λ e. walk (out xs) (way e) row) (c .lead-node .ensures)
+    at-end xs (c .lead-node .result) (g .F·Family .row (c .args .address .now)) (l .depth) (l .node) (led xs (c .args .start)) (l .inv) (c .in-End .is) (c .lead-node .ensures)
 
 pub returns-in-To : need.returns-in-To
 returns-in-To g c =
     let xs = c .args .self .now .slots in
-    let row = g .F·Family .row (c .args .address .now) in
     let l = c .loop-depth in
-    at-last xs (c .lead-node .result) row (l .depth) (c .in-To .field-0) (l .node) (l .inv) (c .in-To .is) (omega (arith, g .F·Family·met .rows (c .args .address .now), c .width-width .ensures, c .loop-depth-test .left))
-    ∙ ap (λ e. walk (out xs) (way e) row) (c .lead-node .ensures)
+    let past = g .F·Family·met .rows (c .args .address .now) in
+    at-last xs (c .lead-node .result) (g .F·Family .row (c .args .address .now)) (l .depth) (c .in-To .field-0) (l .node) (led xs (c .args .start)) (l .inv) (c .in-To .is)
+        (omega (arith, past, c .width-width .ensures, c .loop-depth-test .left)) (c .lead-node .ensures)
