@@ -5,6 +5,7 @@
 --   Counts c rs         c is the census of the routes rs: its graph is theirs, and so are its numbers
 --   Fits, Overflows     the branching shapes before and after the row p comes, as one set, are at most 2,048, or more
 --   Entered c d p r     r is what entering the row p answers, c before and d after
+--   Took c d x r        r is what a line that stands for x answers, c before and d after
 --   Tells rs s          the summary s tells the numbers of the routes rs
 use mathlib.Core.Path.{_≡_}
 use mathlib.Core.List.{List, [], _∷_, _++_}
@@ -13,10 +14,12 @@ use Prim.Native.Nat.{ℕ, suc, min, _+_, _-_, _^_, _<_, _≤_}
 use lib.ListN.{length}
 use Rattle.std.specs.Results.{Cases}
 use Rattle.std.specs.declared.result.Result.{Result}
+use Rattle.std.specs.declared.result.Result.the-variants.{Err}
 use Rattle.bits.specs.Lists.{different}
 use Rattle.bits.specs.Rows.{Bits}
 use Rattle.refusal.specs.declared.Refusal.{Refusal}
 use Rattle.refusal.specs.declared.Refusal.the-variants.{VerticesFull}
+use Rattle.listing.specs.Listing.{Reading, refused, prefix}
 use Rattle.tree.specs.Tree.{Routes, Shape, leaf, fork, alike, grown, pushed, leaves, shapes}
 use Rattle.graph.specs.Slots.{Unfolds}
 use Rattle.graph.specs.View.{Holds}
@@ -51,6 +54,10 @@ Overflows rs p = 2048 < different alike (shapes (pushed rs) ++ shapes (grown p (
 -- a route's hop does not matter
 abbrev pub Entered : Census → Census → Bits → Result Unit Refusal → Type 0
 Entered c d p r = (rs : Routes) (h : ℕ) → Counts c rs → Cases r (λ _. Fits rs p × Counts d (record { at = p; hop = h } ∷ rs)) (λ why. (why ≡ VerticesFull) × Overflows rs p × Counts d rs)
+
+abbrev pub Took : Census → Census → Reading → Result Unit Refusal → Type 0
+Took c d (refused why) r = (r ≡ Err why) × (d ≡ c)
+Took c d (prefix p) r = Entered c d p r
 
 pub record Tells (rs : Routes) (s : Summary) : Type 0 where
   pub routes : s .routes ≡ capped (length rs)

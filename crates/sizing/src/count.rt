@@ -1,10 +1,11 @@
 // Entering routes into a census, and what it tells.
 ghost use mathlib.Core.List.{[]};
 ghost use mathlib.Core.Path.{_≡_};
+ghost use Rattle.listing.specs.Listing.{read-prefix};
 ghost use Rattle.net.specs.Prefix.{row-of};
 ghost use Rattle.tree.specs.Tree.{Routes, Shape};
 ghost use Rattle.graph.specs.Slots.{Unfolds};
-ghost use Rattle.sizing.specs.Census.{added, Counts, Entered, Tells};
+ghost use Rattle.sizing.specs.Census.{added, Counts, Entered, Took, Tells};
 use super::census::Census;
 use super::census::Summary;
 use graph::Edge;
@@ -56,6 +57,16 @@ impl Census {
                 self.table.keep_only(self.start);
                 Err(why)
             }
+        }
+    }
+
+    // The route of a line of a listing, unless the line is refused.
+    pub fn enter_line(&mut self, line: &[u8]) -> Result<(), Refusal>
+        ensures { λ r. ⌜ Took (now (self .entry)) (now (self .exit)) (read-prefix (now (line .entry))) r ⌝ }
+    {
+        match listing::prefix(line) {
+            Ok(prefix) => self.enter(&prefix),
+            Err(why) => Err(why),
         }
     }
 

@@ -11,7 +11,8 @@ ghost use Rattle.text.specs.Fields.{decimal as numberOf, first-of, hex-digit, 
 
 // The place of the first byte that is the mark.
 pub fn first(bytes: &[u8], mark: u8) -> Option<usize>
-    ensures { λ r. ⌜ r ≡ first-of mark (now (bytes .entry)) ⌝ }
+    ensures place { λ r. ⌜ r ≡ first-of mark (now (bytes .entry)) ⌝ }
+    ensures within { λ r. ⌜ Cases r (Unit {0}) (λ i. i < length (now (bytes .entry))) ⌝ }
 {
     for (i, b) in bytes.iter().enumerate() {
         if *b == mark {
