@@ -10,7 +10,15 @@ pub impl fmt::Display for Summary as SummaryDisplay {
     ghost shown = { λ s. Some (decimal (s .routes) ++ (codes " routes, " ++ (decimal (s .nodes) ++ (codes " nodes, " ++ (decimal (s .leaves) ++ (codes " leaves, " ++ (decimal (s .vertices) ++ codes " vertices"))))))) };
 
     fn fmt<W: fmt::Write>(&self, f: &mut fmt::Formatter<W>) -> fmt::Result {
-        let Summary { routes, nodes, leaves, vertices } = *self;
-        write!(f, "{routes} routes, {nodes} nodes, {leaves} leaves, {vertices} vertices")
+        let Summary {
+            routes,
+            nodes,
+            leaves,
+            vertices,
+        } = *self;
+        write!(
+            f,
+            "{routes} routes, {nodes} nodes, {leaves} leaves, {vertices} vertices"
+        )
     }
 }

@@ -33,4 +33,4 @@ returns-in-To g c =
     let l = c .loop-depth in
     let past = g .F·Family·met .rows (c .args .address .now) in
     at-last xs (c .lead-node .result) (g .F·Family .row (c .args .address .now)) (l .depth) (c .in-To .field-0) (l .node) (led xs (c .args .start)) (l .inv) (c .in-To .is)
-        (omega (arith, past, c .width-width .ensures, c .loop-depth-test .left)) (c .lead-node .ensures)
+    (omega (arith, past, c .width-width .ensures, c .loop-depth-test .left)) (c .lead-node .ensures)
