@@ -2,16 +2,16 @@
 use mathlib.Core.Path.{_≡_, refl, sym, ap, subst, _∙_}
 use mathlib.Core.List.{List, [], _∷_, _++_}
 use mathlib.Core.Bool.{Bool, true, false, cond}
-use Prim.Native.Nat.{ℕ, suc, _+_, _<_, _≤_}
+use Prim.Native.Nat.{ℕ, suc, _+_, _-_, _<_, _≤_}
 use native.Mathlib.Nat.{zero-add, add-zero}
 use native.Mathlib.Omega.{arith}
 use lib.Dec.{eqb}
 use lib.ListN.{length, take, drop, getD}
 use Rattle.std.specs.declared.option.Option.{Option}
 use Rattle.std.specs.declared.option.Option.the-variants.{Some, None}
-use Rattle.std.proofs.shelf.Lists.{at-drop-more, at-drop-all}
+use Rattle.std.proofs.shelf.Lists.{at-drop-more, at-drop-all, drop-all, take-rest}
 use Rattle.std.proofs.shelf.Tests.{eq-eqb, ne-eqb}
-use Rattle.text.specs.Fields.{one-more, first-of, in-front, parted}
+use Rattle.text.specs.Fields.{one-more, first-of, moved, end-of-line, in-front, parted}
 
 -- a place, counted from i on
 abbrev pub from : ℕ → Option ℕ → Option ℕ
@@ -75,3 +75,14 @@ parted-none m (b ∷ bs) e = go (eqb b m) (first-of m bs) (parted-none m bs) e
     go true o ih f = absurd (none-some 0 (sym f))
     go false None ih f = ap (in-front b) (ih refl)
     go false (Some k) ih f = absurd (none-some (suc k) (sym f))
+
+-- the end of the line that begins at place k
+pub end-past : (bs : List ℕ) (k : ℕ) → length bs ≤ k → length bs ≡ end-of-line bs k
+unfolding first-of
+end-past bs k h = sym (ap (λ r. moved (length bs) k (first-of 10 r)) (drop-all k bs h))
+
+pub end-none : (bs : List ℕ) (k : ℕ) → None ≡ first-of 10 (take (length bs - k) (drop k bs)) → length bs ≡ end-of-line bs k
+end-none bs k e = ap (moved (length bs) k) (e ∙ ap (first-of 10) (take-rest bs k))
+
+pub end-found : (bs : List ℕ) (k i : ℕ) → Some i ≡ first-of 10 (take (length bs - k) (drop k bs)) → k + i ≡ end-of-line bs k
+end-found bs k i e = ap (moved (length bs) k) (e ∙ ap (first-of 10) (take-rest bs k))

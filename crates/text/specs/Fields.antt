@@ -1,5 +1,6 @@
 -- The fields of a line, as bytes, and what they write. Assumes nothing.
 --   first-of m bs      the place of the first byte m, if there is one
+--   end-of-line bs k   the end of the line that begins at place k: the next line feed, or the end of the input
 --   parted m bs        the parts between the bytes m
 --   fields bs          the fields of a line, parted by commas
 --   decimal bs         the number of one to five decimal digits without a leading zero, 0 itself excepted
@@ -11,7 +12,7 @@ use mathlib.Core.List.{List, [], _∷_, _++_}
 use mathlib.Core.Bool.{Bool, true, false, not, cond, _&&_, _||_}
 use Prim.Native.Nat.{ℕ, suc, _+_, _-_, _*_}
 use lib.Dec.{eqb, leb, ltb}
-use lib.ListN.{length, getD}
+use lib.ListN.{length, drop, getD}
 use Rattle.std.specs.declared.option.Option.{Option}
 use Rattle.std.specs.declared.option.Option.the-variants.{Some, None}
 use Rattle.bits.specs.Rows.{Bits, halves, padded, word}
@@ -23,6 +24,13 @@ one-more (Some i) = Some (suc i)
 unfoldable pub first-of : ℕ → List ℕ → Option ℕ
 first-of m [] = None
 first-of m (b ∷ bs) = cond (eqb b m) (Some 0) (one-more (first-of m bs))
+
+abbrev pub moved : ℕ → ℕ → Option ℕ → ℕ
+moved all k None = all
+moved all k (Some i) = k + i
+
+abbrev pub end-of-line : List ℕ → ℕ → ℕ
+end-of-line bs k = moved (length bs) k (first-of 10 (drop k bs))
 
 -- b in front of the first part
 abbrev pub in-front : ℕ → List (List ℕ) → List (List ℕ)

@@ -7,7 +7,7 @@ ghost use mathlib.Core.Bool.{cond};
 ghost use Rattle.std.specs.declared.option.Option.the-variants.{Some, None};
 ghost use Rattle.std.specs.Options.{Cases};
 ghost use Rattle.bits.specs.Rows.{padded, word};
-ghost use Rattle.text.specs.Fields.{decimal as numberOf, first-of, hex-digit, hex-row, Holds};
+ghost use Rattle.text.specs.Fields.{decimal as numberOf, end-of-line, first-of, hex-digit, hex-row, Holds};
 
 // The place of the first byte that is the mark.
 pub fn first(bytes: &[u8], mark: u8) -> Option<usize>
@@ -20,6 +20,22 @@ pub fn first(bytes: &[u8], mark: u8) -> Option<usize>
         }
     }
     None
+}
+
+// The end of the line that begins at `from`: the place of the next line feed, or the end of the input.
+pub fn line_end(bytes: &[u8], from: usize) -> usize
+    ensures place { λ r. ⌜ r ≡ end-of-line (now (bytes .entry)) from ⌝ }
+    ensures within { λ r. ⌜ r ≤ length (now (bytes .entry)) ⌝ }
+    ensures onward { λ r. ⌜ (from ≤ length (now (bytes .entry)) → from ≤ r) ⌝ }
+{
+    let len = bytes.len();
+    if from > len {
+        return len;
+    }
+    match first(&bytes[from..len], b'\n') {
+        Some(i) => from + i,
+        None => len,
+    }
 }
 
 // The number of one to five decimal digits without a leading zero, 0 itself excepted.
