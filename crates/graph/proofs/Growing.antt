@@ -146,7 +146,7 @@ module _ (xs ys : List Vertex) (ss : List Shape) (t : Shape) (kept : Kept xs ys)
     | inr some ↦ ∥∥₁-map some λ (s, m, h). (s, ∥∥₁-map m (λ d. member-right ss d), h)
   ]
 
-  grown-whole : (e : Edge) → Pathed xs ys t e → Grown ys ss t e
+  pub grown-whole : (e : Edge) → Pathed xs ys t e → Grown ys ss t e
   grown-whole e path = record { unfolds = path .unfolds; holds = holds; number = count; room = omega (arith, count, length-in-use 0 ys, tally-at-most ys) }
     where
       every : (s : Shape) → List·Memᴰ s (ss ++ shapes t) → ∥ ((n : ℕ) × Unfolds ys (To n) s) ∥₁
@@ -162,7 +162,7 @@ module _ (xs ys : List Vertex) (ss : List Shape) (t : Shape) (kept : Kept xs ys)
       count = number ys (ss ++ shapes t) sound holds
 
   -- a shape that is wanted and not held is one more than those of the slots in use
-  too-many : (why : Refusal) → Stopped xs ys t why → Overfull ys ss t why
+  pub too-many : (why : Refusal) → Stopped xs ys t why → Overfull ys ss t why
   too-many why stop = record { why-full = stop .why-full; many = many (stop .missing); only = only-grown (stop .new) }
     where
       many : (s : Shape) × List·Mem s (shapes t) × Unheld ys s → 2048 < different alike (ss ++ shapes t)

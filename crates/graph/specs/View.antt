@@ -54,8 +54,11 @@ pub record View-laws : Type 0 where
   pub reads : (xs : List Vertex) (e : Edge) (t : Shape) → Unfolds xs e t → Reads (out xs) (way e) t
   pub one-for-each : (rs : Routes) (xs : List Vertex) (start : Edge) → ∥ Sound xs ∥₁ → Unfolds xs start (pushed rs) → Holds xs (shapes (pushed rs)) → One-for-each rs (graph-of xs start)
 
-abbrev pub Fork-laws : Type 0
-Fork-laws = (xs ys : List Vertex) (ss : List Shape) (a b : Shape) (e : Edge) → Kept xs ys → Made xs ys (fork a b) e → Holds xs ss → Holds ys (fork a b ∷ ss)
+-- what a fork keeps is kept by any number of them
+pub record Fork-laws : Type 0 where
+  pub held : (xs ys : List Vertex) (ss : List Shape) (a b : Shape) (e : Edge) → Kept xs ys → Made xs ys (fork a b) e → Holds xs ss → Holds ys (fork a b ∷ ss)
+  pub kept-same : (xs : List Vertex) → Kept xs xs
+  pub kept-then : (xs ys zs : List Vertex) → Kept xs ys → Kept ys zs → Kept xs zs
 
 -- xs at first, ys after some forks, zs at last
 pub record Keep-laws : Type 0 where
