@@ -2,3 +2,6 @@ pub mod Tests
 pub mod Sets
 pub mod Fronts
 pub mod Words
+pub mod Members
+pub mod Each
+pub mod Begins
