@@ -10,14 +10,16 @@ use lib.Dec.{eqb}
 use lib.ListN.{length}
 use Rattle.bits.specs.Lists.{different}
 use Rattle.tree.specs.Tree.{Routes, Shape, fork, alike, shapes, pushed}
-use Rattle.tree.specs.Graph.{Edge as Way, to, Inside, Closed, Reads, reads-end, reads-to, One-for-each}
+use Rattle.tree.specs.Graph.{Edge as Way, to, Inside, Closed, Ends-at-leaves, Reads, reads-end, reads-to, One-for-each}
 use Rattle.graph.specs.Slots.{at, side-of, next, led, Unfolds, unfolds-end, unfolds-to, Leads, Sound, in-use}
 use Rattle.graph.specs.View.{way, out, graph-of, Holds}
 use Rattle.graph.specs.declared.edge.Edge.{Edge}
 use Rattle.graph.specs.declared.edge.Edge.the-variants.{End, To}
 use Rattle.graph.specs.declared.vertex.Vertex.{Vertex}
 use Rattle.bits.proofs.Sets.{different-injected, different-no-repeats}
+use Rattle.tree.specs.LeafLaws.{At-most}
 use Rattle.tree.proofs.Shapes.{alike-equality}
+use Rattle.tree.proofs.Walks.{reads-end-at-leaves}
 use Rattle.graph.proofs.Once.{once-each, length-once-each, member-once-each}
 use Rattle.graph.proofs.Edges.{to-is, led-leads}
 use Rattle.graph.proofs.Unfold.{unfolds-one, one-edge, leads-of-unfolds, sides-lead}
@@ -110,3 +112,6 @@ one-for-each rs xs start sound whole holds = record {
       ∥∥₁-elim (unfolds-of-reads xs w t sound (listed-in-use xs w k) h′) (ℕ-set _ _) λ b. to-is (one-edge xs (To v) (To w) t sound a b);
   number = number xs (shapes (pushed rs)) sound holds;
 }
+
+pub ends : (W : ℕ) (rs : Routes) (xs : List Vertex) (start : Edge) → At-most W rs → Unfolds xs start (pushed rs) → Ends-at-leaves W rs (graph-of xs start)
+ends W rs xs start short h = reads-end-at-leaves W rs short (graph-of xs start) (reads-of-unfolds h)

@@ -13,7 +13,8 @@ use Prim.Native.Nat.{ℕ}
 use lib.ListN.{length}
 use Rattle.bits.specs.Lists.{different}
 use Rattle.tree.specs.Tree.{Routes, Shape, fork, alike, shapes, pushed}
-use Rattle.tree.specs.Graph.{Edge as Way, end, to, Graph, Closed, Reads, One-for-each}
+use Rattle.tree.specs.Graph.{Edge as Way, end, to, Graph, Closed, Ends-at-leaves, Reads, One-for-each}
+use Rattle.tree.specs.LeafLaws.{At-most}
 use Rattle.graph.specs.Slots.{at, side-of, next, led, Unfolds, Leads, Sound, in-use}
 use Rattle.graph.specs.Calls.{Kept, Made}
 use Rattle.graph.specs.Keep.{Kept-only}
@@ -53,6 +54,8 @@ pub record View-laws : Type 0 where
   pub closed : (xs : List Vertex) (e : Edge) → ∥ Sound xs ∥₁ → Closed (graph-of xs (led xs e))
   pub reads : (xs : List Vertex) (e : Edge) (t : Shape) → Unfolds xs e t → Reads (out xs) (way e) t
   pub one-for-each : (rs : Routes) (xs : List Vertex) (start : Edge) → ∥ Sound xs ∥₁ → Unfolds xs start (pushed rs) → Holds xs (shapes (pushed rs)) → One-for-each rs (graph-of xs start)
+  -- where the start unfolds to the tree of the routes, the walk of each address ends at its leaf's depth
+  pub ends : (W : ℕ) (rs : Routes) (xs : List Vertex) (start : Edge) → At-most W rs → Unfolds xs start (pushed rs) → Ends-at-leaves W rs (graph-of xs start)
 
 -- what a fork keeps is kept by any number of them
 pub record Fork-laws : Type 0 where

@@ -1,5 +1,5 @@
 use Rattle.graph.proofs.Unfold.{unfolds-one, one-edge, each-unfolds}
-use Rattle.graph.proofs.View.{sides, parts, some-shapes, number, none, closed, reads-of-unfolds, one-for-each}
+use Rattle.graph.proofs.View.{sides, parts, some-shapes, number, none, closed, reads-of-unfolds, one-for-each, ends}
 use Rattle.graph.proofs.view_laws_stand.Needs as need
 
 pub returns : need.returns
@@ -15,4 +15,5 @@ returns c = record {
   closed = closed;
   reads = λ xs e t. reads-of-unfolds;
   one-for-each = one-for-each;
+  ends = ends;
 }
