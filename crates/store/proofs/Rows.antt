@@ -55,7 +55,7 @@ row-sound xs apart few =
 row-wrote : (xs ys : List Slot) (q : Bits) (i : ℕ) (s : Slot) → Written xs q i s ys → Wrote q (told-by s) (row-content xs) (row-content ys)
 row-wrote xs ys q i s w = record { rows = w .tells; number = w .number }
 
-held-present : (xs : List Slot) (q : Bits) (i : ℕ) → spot xs q ≡ Some i → present (told-in xs q) ≡ true
+pub held-present : (xs : List Slot) (q : Bits) (i : ℕ) → spot xs q ≡ Some i → present (told-in xs q) ≡ true
 held-present xs q i e = rw e (go (at xs i) (spot-holds xs q i e .0))
   where
     go : (s : Slot) → holds q s ≡ true → present (told-by s) ≡ true

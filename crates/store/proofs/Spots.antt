@@ -119,6 +119,13 @@ told-inside (Free ∷ xs) zero t = absurd (true≢false (sym t))
 told-inside (Taken p h ∷ xs) zero t = (omega arith, refl)
 told-inside (s ∷ xs) (suc i) t = let ih = told-inside xs i t in (omega arith, ih .1)
 
+-- a slot that holds a row is there, and is taken
+pub held-inside : (xs : List Slot) (q : Bits) (i : ℕ) → holds q (at xs i) ≡ true → (i < length xs) × (taken (at xs i) ≡ true)
+held-inside [] q i h = absurd (true≢false (sym h))
+held-inside (Free ∷ xs) q zero h = absurd (true≢false (sym h))
+held-inside (Taken p k ∷ xs) q zero h = (omega arith, refl)
+held-inside (s ∷ xs) q (suc i) h = let ih = held-inside xs q i h in (omega arith, ih .1)
+
 -- to empty a slot that tells nothing changes nothing
 pub set-free : (xs : List Slot) (i : ℕ) → isSome (told-by (at xs i)) ≡ false → set xs i Free ≡ xs
 set-free [] i t = refl
