@@ -3,7 +3,6 @@ use net::Prefix;
 use store::Slot;
 ghost use mathlib.Core.Bool.{cond};
 ghost use mathlib.Core.Path.{_≡_};
-ghost use lib.ListN.{length};
 ghost use Rattle.net.specs.Prefix.{row-of};
 ghost use Rattle.store.specs.Slots.{taken};
 ghost use Rattle.layer.specs.Buckets.{fill as fillOf, Finds-in, Frees-in};
@@ -12,8 +11,7 @@ ghost use Rattle.layer.specs.Buckets.{fill as fillOf, Finds-in, Frees-in};
 pub const SLOTS: usize = 768;
 
 // The slot of the bucket that holds the prefix.
-pub(crate) fn find_in(slots: &[Slot], bucket: u8, prefix: &Prefix) -> Option<usize>
-    requires { ⌜ length (now slots) ≡ 768 ⌝ }
+pub(crate) fn find_in(slots: &[Slot; SLOTS], bucket: u8, prefix: &Prefix) -> Option<usize>
     ensures { λ r. ⌜ Finds-in (now (slots .entry)) bucket (row-of (now (prefix .entry))) r ⌝ }
 {
     let first = 3 * bucket as usize;
@@ -27,8 +25,7 @@ pub(crate) fn find_in(slots: &[Slot], bucket: u8, prefix: &Prefix) -> Option<usi
 }
 
 // The first free slot of the bucket.
-pub(crate) fn free_in(slots: &[Slot], bucket: u8) -> Option<usize>
-    requires { ⌜ length (now slots) ≡ 768 ⌝ }
+pub(crate) fn free_in(slots: &[Slot; SLOTS], bucket: u8) -> Option<usize>
     ensures { λ r. ⌜ Frees-in (now (slots .entry)) bucket r ⌝ }
 {
     let first = 3 * bucket as usize;
@@ -48,8 +45,7 @@ fn size(slot: &Slot) -> u8
 }
 
 // How many entries the bucket has.
-pub(crate) fn fill(slots: &[Slot], bucket: u8) -> u8
-    requires { ⌜ length (now slots) ≡ 768 ⌝ }
+pub(crate) fn fill(slots: &[Slot; SLOTS], bucket: u8) -> u8
     ensures { λ r. ⌜ r ≡ fillOf (now (slots .entry)) bucket ⌝ }
 {
     let first = 3 * bucket as usize;

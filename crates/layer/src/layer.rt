@@ -1,4 +1,5 @@
 // A layer of buckets over a store.
+use crate::bucket::SLOTS;
 use store::Slot;
 ghost use mathlib.Core.Path.{_≡_};
 ghost use lib.ListN.{length};
@@ -12,9 +13,9 @@ pub mod search;
 pub struct Layer<C, S> {
     chooser: C,
     below: S,
-    slots: [Slot; 768],
+    slots: [Slot; SLOTS],
     own: u64,
-    strays: u64,
+    strays: u16,
     ghost long: { length slots ≡ 768 },
     ghost counted: { own ≡ used slots },
 }

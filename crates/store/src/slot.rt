@@ -70,10 +70,10 @@ pub fn find(slots: &[Slot], prefix: &Prefix) -> Option<usize>
 pub fn find_free(slots: &[Slot]) -> Option<usize>
     ensures { λ r. ⌜ Frees (now (slots .entry)) r ⌝ }
 {
-    for i in 0..slots.len() {
-        let slot = &slots[i];
+    for free in 0..slots.len() {
+        let slot = &slots[free];
         if !slot.is_taken() {
-            return Some(i);
+            return Some(free);
         }
     }
     None

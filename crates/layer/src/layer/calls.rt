@@ -34,7 +34,7 @@ impl<C: Chooser, S: Store> Layer<C, S> {
         Layer {
             chooser,
             below,
-            slots: [Slot::Free; 768],
+            slots: [Slot::Free; SLOTS],
             own: 0,
             strays: 0,
         }
@@ -57,14 +57,7 @@ impl<C: Chooser, S: Store> Layer<C, S> {
     pub fn strays(&self) -> u64
         ensures { λ r. ⌜ (Sound-layer (C·Chooser .bucket) (S·Store .kept) (S·Store .content) (now (self .entry)) → r ≡ strays-in (C·Chooser .bucket) (now (self .entry) .slots)) ⌝ }
     {
-        self.strays
-    }
-
-    // The store below.
-    pub fn below(&self) -> &S
-        ensures { λ r. ⌜ now r ≡ now (self .entry) .below ⌝ }
-    {
-        &self.below
+        u64::from(self.strays)
     }
 
     fn hop_at(&self, i: usize) -> Option<u16>
@@ -169,7 +162,7 @@ pub impl<C: Chooser, S: Store> Store for Layer<C, S> as LayerStore {
     }
 
     fn clear(&mut self) {
-        self.slots = [Slot::Free; 768];
+        self.slots = [Slot::Free; SLOTS];
         self.own = 0;
         self.strays = 0;
         self.below.clear();

@@ -41,7 +41,7 @@ impl<C: Chooser, S: Store> Layer<C, S> {
     }
 
     // 1 where the bucket is none of the prefix's four, else 0.
-    pub(super) fn astray(&self, prefix: &Prefix, bucket: usize) -> u64
+    pub(super) fn astray(&self, prefix: &Prefix, bucket: usize) -> u16
         ensures { λ r. ⌜ r ≡ cond (near (C·Chooser .bucket) (now (prefix .entry)) bucket) 0 1 ⌝ }
     {
         for attempt in 0..4 {
