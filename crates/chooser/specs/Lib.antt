@@ -1,2 +1,3 @@
 pub mod Fnv
 pub mod Fold
+pub mod Load

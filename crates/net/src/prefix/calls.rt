@@ -100,7 +100,7 @@ pub impl PartialEq<Prefix> for Prefix as PrefixPartialEq {
         if self.first != other.first || self.second != other.second {
             return false;
         }
-        self.len == other.len
+        other.len == self.len
     }
 }
 

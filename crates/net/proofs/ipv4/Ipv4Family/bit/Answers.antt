@@ -10,4 +10,4 @@ use Rattle.net.proofs.ipv4.Ipv4Family.bit.Needs as need
 pub returns : need.returns
 returns c =
     c .bit .ensures ∙ ap (λ n. getD (halves ((n * 2 ^ 32) % 2 ^ 64) 0) (c .args .i) false) (c .from .ensures)
-    ∙ top-bit (c .args .self .now .0) (c .args .i) (omega arith)
+    ∙ top-bit 32 (c .args .self .now .0) (c .args .i) (omega arith) (omega arith)

@@ -1,0 +1,13 @@
+use mathlib.Core.Path.{ap, _∙_}
+use mathlib.Core.Bool.{false}
+use Prim.Native.Nat.{_*_, _%_, _^_}
+use native.Mathlib.Omega.{arith}
+use lib.ListN.{getD}
+use Rattle.bits.specs.Rows.{halves}
+use Rattle.net.proofs.Families.{top-bit}
+use Rattle.narrow.proofs.NarrowFamily.bit.Needs as need
+
+pub returns : need.returns
+returns c =
+    c .bit .ensures ∙ ap (λ n. getD (halves ((n * 2 ^ 59) % 2 ^ 64) 0) (c .args .i) false) (c .from .ensures)
+    ∙ top-bit 5 (c .args .self .now .number) (c .args .i) (omega arith) (c .args .self .now .small)
