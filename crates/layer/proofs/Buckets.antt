@@ -18,10 +18,10 @@ use Rattle.bits.proofs.Tests.{same-is}
 use Rattle.net.specs.Prefix.{row-of}
 use Rattle.net.specs.declared.prefix.Prefix.{Prefix}
 use Rattle.net.proofs.Prefixes.{one-for-a-row}
-use Rattle.store.specs.Slots.{at, holds, taken, spot, used, Apart}
+use Rattle.store.specs.Slots.{at, holds, taken, spot, Apart}
 use Rattle.store.specs.declared.slot.Slot.{Slot}
 use Rattle.store.specs.declared.slot.Slot.the-variants.{Free, Taken}
-use Rattle.store.proofs.Spots.{spot-is, spot-none, spot-holds, used-set, held-inside}
+use Rattle.store.proofs.Spots.{spot-is, spot-none, spot-holds}
 use Rattle.layer.specs.Buckets.{size-at, fill, near, astray, strays-from, strays-in, earliest-least, Earliest-least, Choice-law, choice, Finds-near, Found}
 
 -- a free slot of a bucket leaves it not full
@@ -174,23 +174,3 @@ found-spot xs q (Some i) long e = let h = spot-holds xs q i (sym e) in (omega (a
 pub choice-first : (g : ℕ → ℕ) → earliest-least g 1 ≡ 0
 unfolding earliest-least
 choice-first g = grind arith
-
--- a write over an entry leaves the number of entries
-pub used-replaced : (xs : List Slot) (q : Bits) (i : ℕ) (p : Prefix) (h : ℕ) → holds q (at xs i) ≡ true → used (set xs i (Taken p h)) ≡ used xs
-used-replaced xs q i p h held =
-    let t = held-inside xs q i held in
-    let n = used-set xs i (Taken p h) (t .0) in
-    let u = t .1 in
-    grind arith
-
--- a write into a free slot adds one
-pub used-entered : (xs : List Slot) (i : ℕ) (p : Prefix) (h : ℕ) → i < length xs → taken (at xs i) ≡ false → used (set xs i (Taken p h)) ≡ used xs + 1
-used-entered xs i p h l free = let n = used-set xs i (Taken p h) l in grind arith
-
--- to empty a slot that holds a row takes one off
-pub used-emptied : (xs : List Slot) (q : Bits) (i : ℕ) → holds q (at xs i) ≡ true → used (set xs i Free) + 1 ≡ used xs
-used-emptied xs q i held =
-    let t = held-inside xs q i held in
-    let n = used-set xs i Free (t .0) in
-    let u = t .1 in
-    grind arith

@@ -258,3 +258,17 @@ emptied f n k d below empty =
       layer-sound f 0 k xs d (record { below = below; apart = apart-none xs none; separate = λ q h. empty .rows q; strays = sym (strays-none f 0 n) }) (omega arith),
       record { rows = λ q. (let a = told-none xs q free in let b = empty .rows q in grind arith); number = omega arith },
     )
+
+pub emptied-as : (f : Prefix → ℕ → ℕ) (n : ℕ) (xs : List Slot) → xs ≡ replicate n Free → (k : Type 0) (d : Content) → Sound k d → Empty d → (Layer-sound f xs 0 k d) × Empty (layer-content xs d)
+emptied-as f n xs e k d below empty = subst (λ ys. (Layer-sound f ys 0 k d) × Empty (layer-content ys d)) (sym e) (emptied f n k d below empty)
+
+-- what a write at slot i leaves, under another name of the slots after it
+pub put-as : (f : Prefix → ℕ → ℕ) (p : Prefix) (h : ℕ) (xs : List Slot) (c : Content) (n : ℕ) (k : Type 0) (d : Content) (r : Result (Unit {0}) Refusal) (ys zs : List Slot) → ys ≡ zs → Puts-in f p h xs c zs n k d r → Puts-in f p h xs c ys n k d r
+put-as f p h xs c n k d r ys zs e done = subst (λ us. Puts-in f p h xs c us n k d r) (sym e) done
+
+pub taken-as : (f : Prefix → ℕ → ℕ) (p : Prefix) (xs : List Slot) (m : ℕ) (k : Type 0) (c : Content) (t u : Told) (ys zs : List Slot) → ys ≡ zs → u ≡ t
+    → Layer-sound f zs m k c × (Removes (row-of p) (layer-content xs c) (layer-content zs c) t × Placed (row-of p) None xs c zs c)
+    → Layer-sound f ys m k c × (Removes (row-of p) (layer-content xs c) (layer-content ys c) u × Placed (row-of p) None xs c ys c)
+taken-as f p xs m k c t u ys zs e a done =
+    subst (λ us. Layer-sound f us m k c × (Removes (row-of p) (layer-content xs c) (layer-content us c) u × Placed (row-of p) None xs c us c)) (sym e)
+    (subst (λ v. Layer-sound f zs m k c × (Removes (row-of p) (layer-content xs c) (layer-content zs c) v × Placed (row-of p) None xs c zs c)) (sym a) done)

@@ -21,19 +21,19 @@ use Rattle.layer.specs.Layers.{layer-content, Layered}
 use Rattle.layer.specs.Places.{place-of, Placed, Put-places}
 
 abbrev pub content-of : {C S : Type 0} → (S → Content) → Layer C S → Content
-content-of content l = layer-content (l .slots) (content (l .below))
+content-of content l = layer-content (l .buckets .slots) (content (l .below))
 
 abbrev pub kept-by : {C S : Type 0} → (Prefix → ℕ → ℕ) → (S → Type 0) → (S → Content) → Layer C S → Type 0
-kept-by f kept content l = Layered f (l .slots) (l .strays) (kept (l .below)) (content (l .below))
+kept-by f kept content l = Layered f (l .buckets .slots) (l .strays) (kept (l .below)) (content (l .below))
 
 abbrev pub Sound-layer : {C S : Type 0} → (Prefix → ℕ → ℕ) → (S → Type 0) → (S → Content) → Layer C S → Type 0
 Sound-layer f kept content l = Sound (kept-by f kept content l) (content-of content l)
 
 abbrev pub place-in : {C S : Type 0} → (S → Content) → Layer C S → Bits → Option Place
-place-in content l q = place-of (l .slots) (content (l .below)) q
+place-in content l q = place-of (l .buckets .slots) (content (l .below)) q
 
 abbrev pub Puts-layer : {C S : Type 0} → (Prefix → ℕ → ℕ) → (S → Content) → Prefix → Layer C S → Layer C S → Result (Unit {0}) Refusal → Type 0
-Puts-layer f content p l m r = Put-places f p (l .slots) (content (l .below)) (m .slots) (content (m .below)) r
+Puts-layer f content p l m r = Put-places f p (l .buckets .slots) (content (l .below)) (m .buckets .slots) (content (m .below)) r
 
 abbrev pub Takes-layer : {C S : Type 0} → (S → Content) → Prefix → Layer C S → Layer C S → Type 0
-Takes-layer content p l m = Placed (row-of p) None (l .slots) (content (l .below)) (m .slots) (content (m .below))
+Takes-layer content p l m = Placed (row-of p) None (l .buckets .slots) (content (l .below)) (m .buckets .slots) (content (m .below))

@@ -7,7 +7,6 @@ use Prim.Native.Nat.{ℕ, zero, suc, _+_, _<_, _≤_, min}
 use native.Mathlib.Omega.{arith}
 use lib.Dec.{eqb}
 use lib.ListN.{length, set}
-use Rattle.std.specs.Options.{isSome}
 use Rattle.std.specs.declared.option.Option.{Option}
 use Rattle.std.specs.declared.option.Option.the-variants.{Some, None}
 use Rattle.std.specs.declared.result.Result.the-variants.{Ok, Err}
@@ -20,10 +19,10 @@ use Rattle.net.specs.Prefix.{row-of}
 use Rattle.net.specs.declared.prefix.Prefix.{Prefix}
 use Rattle.refusal.specs.declared.Refusal.the-variants.{Hop, StoreFull}
 use Rattle.store.specs.Content.{Content, Told, absent, hop-told, present, size, bad-hop, put-refusal, Wrote, Puts, Removes, Empty, Sound}
-use Rattle.store.specs.Slots.{at, holds, told-by, taken, spot, told-at, told-in, used, Apart, Frees, row-content}
+use Rattle.store.specs.Slots.{at, holds, told-by, taken, spot, told-at, told-in, used, Apart, Frees, row-content, Row-kept}
 use Rattle.store.specs.declared.slot.Slot.{Slot}
 use Rattle.store.specs.declared.slot.Slot.the-variants.{Free, Taken}
-use Rattle.store.proofs.Spots.{Of, of-free, of-entry, Site, site-held, site-free, Written, written, spot-holds, spot-none, not-taken, told-inside, used-set, used-most}
+use Rattle.store.proofs.Spots.{Of, of-free, of-entry, Site, site-held, site-free, Written, written, spot-holds, spot-none, not-taken, used-most}
 use Rattle.store.proofs.Numbers.{used-counted}
 
 -- every slot is free
@@ -48,9 +47,9 @@ apart-none xs none q i j h k = absurd (both-ways _ (not-taken q (at xs i) (free 
     free (s ∷ xs) e zero = grind arith
     free (s ∷ xs) e (suc i) = free xs (omega arith) i
 
-pub row-sound : (xs : List Slot) → Apart xs → used xs ≤ 1048576 → Sound (Unit {0}) (row-content xs)
-row-sound xs apart few =
-    record { kept = tt; within = omega (arith, used-most xs); most = omega arith; counted = used-counted xs apart }
+pub row-sound : (xs : List Slot) (n : ℕ) → Apart xs → n ≡ used xs → used xs ≤ 1048576 → Sound (Row-kept xs n) (row-content xs)
+row-sound xs n apart counted few =
+    record { kept = record { apart = apart; counted = counted }; within = omega (arith, used-most xs); most = omega arith; counted = used-counted xs apart }
 
 row-wrote : (xs ys : List Slot) (q : Bits) (i : ℕ) (s : Slot) → Written xs q i s ys → Wrote q (told-by s) (row-content xs) (row-content ys)
 row-wrote xs ys q i s w = record { rows = w .tells; number = w .number }
@@ -106,12 +105,12 @@ entered xs apart p i h e l f =
     let n = w .number in
     (w .apart, grind arith)
 
-pub emptied : (xs : List Slot) (i : ℕ) → isSome (told-by (at xs i)) ≡ true → used (set xs i Free) + 1 ≡ used xs
-emptied xs i t =
-    let inside = told-inside xs i t in
-    let n = used-set xs i Free (inside .0) in
-    let taken = inside .1 in
-    grind arith
+pub taken-out : (xs : List Slot) → Apart xs → (q : Bits) (i : ℕ) → spot xs q ≡ Some i → Apart (set xs i Free) × (used (set xs i Free) + 1 ≡ used xs)
+taken-out xs apart q i e =
+    let w = written xs q i (site-held xs q i apart e) Free (of-free q) in
+    let there = held-present xs q i e in
+    let n = w .number in
+    (w .apart, grind arith)
 
 pub removed : (xs : List Slot) → Apart xs → (q : Bits) (i : ℕ) → spot xs q ≡ Some i → Removes q (row-content xs) (row-content (set xs i Free)) (told-by (at xs i))
 removed xs apart q i e =

@@ -27,10 +27,6 @@ use Rattle.store.specs.Slots.{at, holds, told-by, taken, next, spot, told-at, 
 use Rattle.store.specs.declared.slot.Slot.{Slot}
 use Rattle.store.specs.declared.slot.Slot.the-variants.{Free, Taken}
 
--- the fact of a ghost field
-pub apart-of : (xs : List Slot) → ∥ Apart xs ∥₁ → Apart xs
-apart-of xs t q i j h k = ∥∥₁-elim t (ℕ-set i j) (λ a. a q i j h k)
-
 pub not-taken : (q : Bits) (s : Slot) → taken s ≡ false → holds q s ≡ false
 not-taken q Free e = refl
 not-taken q (Taken p h) e = absurd (true≢false e)

@@ -9,6 +9,7 @@
 --   Frees xs r       r is the number of a free slot, or none where every slot has an entry
 --   Apart xs         no row is in two slots
 --   row-content xs   the content of a flat row over these slots
+--   Row-kept xs n    what a flat row asks of itself, where n is its count of entries
 use mathlib.Core.Path.{_≡_}
 use mathlib.Core.List.{List, [], _∷_}
 use mathlib.Core.Bool.{Bool, true, false}
@@ -65,3 +66,7 @@ Apart xs = (q : Bits) (i j : ℕ) → holds q (at xs i) ≡ true → holds q (at
 
 abbrev pub row-content : List Slot → Content
 row-content xs = record { map = told-in xs; held = used xs; limit = min (length xs) 1048576 }
+
+pub record Row-kept (xs : List Slot) (n : ℕ) : Type 0 where
+  pub apart : Apart xs
+  pub counted : n ≡ used xs

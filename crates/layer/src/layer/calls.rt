@@ -1,5 +1,6 @@
 // The calls on a layer. Where an entry goes is promised; only the slot inside a bucket and the bucket of last resort are left open.
 use super::Layer;
+use crate::bucket::Buckets;
 use crate::bucket::SLOTS;
 use crate::place::Place;
 use chooser::Chooser;
@@ -7,12 +8,10 @@ use net::Prefix;
 use refusal::Refusal;
 use store::Slot;
 use store::Store;
-use store::slot;
 ghost use mathlib.Core.Path.{_≡_};
 ghost use Prim.Native.Nat.{_+_, min};
 ghost use Rattle.net.specs.Prefix.{row-of};
 ghost use Rattle.store.specs.Content.{Empty, Puts, Removes};
-ghost use Rattle.store.specs.Slots.{at, told-by, Frees};
 ghost use Rattle.layer.specs.Buckets.{strays-in};
 ghost use Rattle.layer.specs.Layers.{Fresh};
 ghost use Rattle.layer.specs.Places.{Puts-in};
@@ -34,8 +33,7 @@ impl<C: Chooser, S: Store> Layer<C, S> {
         Layer {
             chooser,
             below,
-            slots: [Slot::Free; SLOTS],
-            own: 0,
+            buckets: Buckets::empty(),
             strays: 0,
         }
     }
@@ -55,27 +53,15 @@ impl<C: Chooser, S: Store> Layer<C, S> {
 
     // How many entries lie in none of their four buckets.
     pub fn strays(&self) -> u64
-        ensures { λ r. ⌜ (Sound-layer (C·Chooser .bucket) (S·Store .kept) (S·Store .content) (now (self .entry)) → r ≡ strays-in (C·Chooser .bucket) (now (self .entry) .slots)) ⌝ }
+        ensures { λ r. ⌜ (Sound-layer (C·Chooser .bucket) (S·Store .kept) (S·Store .content) (now (self .entry)) → r ≡ strays-in (C·Chooser .bucket) (now (self .entry) .buckets .slots)) ⌝ }
     {
         u64::from(self.strays)
-    }
-
-    fn hop_at(&self, i: usize) -> Option<u16>
-        ensures { λ r. ⌜ r ≡ told-by (at (now (self .entry) .slots) i) ⌝ }
-    {
-        slot::hop_at(&self.slots, i)
-    }
-
-    fn find_free(&self) -> Option<usize>
-        ensures { λ r. ⌜ Frees (now (self .entry) .slots) r ⌝ }
-    {
-        slot::find_free(&self.slots)
     }
 
     // Sets the hop of a prefix that is not held.
     fn enter(&mut self, prefix: &Prefix, hop: u16) -> Result<(), Refusal>
         ensures limits { λ _. ⌜ S·Store .content (now (self .exit) .below) .limit ≡ S·Store .content (now (self .entry) .below) .limit ⌝ }
-        ensures enters { λ r. ⌜ (Fresh (kept-by (C·Chooser .bucket) (S·Store .kept) (S·Store .content) (now (self .entry))) (content-of (S·Store .content) (now (self .entry))) (row-of (now (prefix .entry))) hop → Puts-in (C·Chooser .bucket) (now (prefix .entry)) hop (now (self .entry) .slots) (S·Store .content (now (self .entry) .below)) (now (self .exit) .slots) (now (self .exit) .strays) (S·Store .kept (now (self .exit) .below)) (S·Store .content (now (self .exit) .below)) r) ⌝ }
+        ensures enters { λ r. ⌜ (Fresh (kept-by (C·Chooser .bucket) (S·Store .kept) (S·Store .content) (now (self .entry))) (content-of (S·Store .content) (now (self .entry))) (row-of (now (prefix .entry))) hop → Puts-in (C·Chooser .bucket) (now (prefix .entry)) hop (now (self .entry) .buckets .slots) (S·Store .content (now (self .entry) .below)) (now (self .exit) .buckets .slots) (now (self .exit) .strays) (S·Store .kept (now (self .exit) .below)) (S·Store .content (now (self .exit) .below)) r) ⌝ }
     {
         if self.held() == self.limit() {
             return Err(Refusal::StoreFull);
@@ -85,18 +71,16 @@ impl<C: Chooser, S: Store> Layer<C, S> {
             hop,
         };
         if let Some(i) = self.room(prefix) {
-            self.slots[i] = entry;
-            self.own += 1;
+            self.buckets.write(i, entry);
             return Ok(());
         }
         if self.below.put(prefix, u64::from(hop)).is_ok() {
             return Ok(());
         }
-        let Some(i) = self.find_free() else {
+        let Some(i) = self.buckets.find_free() else {
             return Err(Refusal::StoreFull);
         };
-        self.slots[i] = entry;
-        self.own += 1;
+        self.buckets.write(i, entry);
         self.strays = self.strays.saturating_add(1);
         Ok(())
     }
@@ -109,13 +93,13 @@ pub impl<C: Chooser, S: Store> Store for Layer<C, S> as LayerStore {
 
     fn get(&self, prefix: &Prefix) -> Option<u16> {
         if let Some(i) = self.find(prefix) {
-            return self.hop_at(i);
+            return self.buckets.hop_at(i);
         }
         self.below.get(prefix)
     }
 
     fn held(&self) -> u64 {
-        self.own.saturating_add(self.below.held())
+        self.buckets.used().saturating_add(self.below.held())
     }
 
     fn limit(&self) -> u64 {
@@ -132,10 +116,11 @@ pub impl<C: Chooser, S: Store> Store for Layer<C, S> as LayerStore {
             return Err(Refusal::Hop);
         }
         if let Some(i) = self.find(prefix) {
-            self.slots[i] = Slot::Taken {
+            let entry = Slot::Taken {
                 prefix: *prefix,
                 hop: hop as u16,
             };
+            self.buckets.write(i, entry);
             return Ok(());
         }
         if self.below.get(prefix).is_some() {
@@ -153,17 +138,15 @@ pub impl<C: Chooser, S: Store> Store for Layer<C, S> as LayerStore {
         let Some(i) = self.find(prefix) else {
             return self.below.remove(prefix);
         };
-        let hop = self.hop_at(i);
+        let hop = self.buckets.hop_at(i);
         let stray = self.astray(prefix, i / 3);
-        self.slots[i] = Slot::Free;
-        self.own -= 1;
+        self.buckets.write(i, Slot::Free);
         self.strays = self.strays.saturating_sub(stray);
         hop
     }
 
     fn clear(&mut self) {
-        self.slots = [Slot::Free; SLOTS];
-        self.own = 0;
+        self.buckets = Buckets::empty();
         self.strays = 0;
         self.below.clear();
     }

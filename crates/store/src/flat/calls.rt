@@ -8,13 +8,12 @@ use crate::store::Store;
 use net::Prefix;
 use refusal::Refusal;
 ghost use mathlib.Core.Path.{_≡_};
-ghost use lib.ListN.{length, set};
+ghost use lib.ListN.{length};
 ghost use Prim.Native.Nat.{min};
 ghost use denote.Ref.{now};
 ghost use Rattle.net.specs.Prefix.{row-of};
 ghost use Rattle.store.specs.Content.{Empty, Sound};
-ghost use Rattle.store.specs.declared.slot.Slot.the-variants.{Free};
-ghost use Rattle.store.specs.Slots.{at, row-content, spot, told-by, Frees};
+ghost use Rattle.store.specs.Slots.{at, row-content, spot, told-by, Frees, Row-kept};
 
 // No row has a higher limit, however many slots it has.
 pub const MOST: usize = 1_048_576;
@@ -22,7 +21,7 @@ pub const MOST: usize = 1_048_576;
 impl<'a> FlatRow<'a> {
     // Empties the slots.
     pub fn new(slots: &'a mut [Slot]) -> FlatRow<'a>
-        ensures keeps { λ r. ⌜ Sound (Unit {0}) (row-content (now (r .slots))) ⌝ }
+        ensures keeps { λ r. ⌜ Sound (Row-kept (now (r .slots)) (r .held)) (row-content (now (r .slots))) ⌝ }
         ensures empties { λ r. ⌜ Empty (row-content (now (r .slots))) ⌝ }
         ensures limits { λ r. ⌜ row-content (now (r .slots)) .limit ≡ min (length (now (slots .entry))) 1048576 ⌝ }
     {
@@ -49,25 +48,12 @@ impl<'a> FlatRow<'a> {
     {
         hop_at(self.slots, i)
     }
-
-    // Empties a slot, and answers the hop that was in it, or none.
-    fn empty(&mut self, i: usize) -> Option<u16>
-        ensures slots { λ _. ⌜ now (now (self .exit) .slots) ≡ set (now (now (self .entry) .slots)) i Free ⌝ }
-        ensures answer { λ r. ⌜ r ≡ told-by (at (now (now (self .entry) .slots)) i) ⌝ }
-    {
-        let hop = self.hop_at(i);
-        if hop.is_some() {
-            self.slots[i] = Slot::Free;
-            self.held -= 1;
-        }
-        hop
-    }
 }
 
 pub impl Store for FlatRow<'_> as FlatRowStore {
     ghost content = { λ s. row-content (now (s .slots)) };
 
-    ghost kept = { λ _. Unit {0} };
+    ghost kept = { λ s. Row-kept (now (s .slots)) (s .held) };
 
     fn get(&self, prefix: &Prefix) -> Option<u16> {
         let Some(i) = self.find(prefix) else {
@@ -103,7 +89,7 @@ pub impl Store for FlatRow<'_> as FlatRowStore {
             return Err(Refusal::StoreFull);
         };
         self.slots[i] = entry;
-        self.held += 1;
+        self.held = self.held.saturating_add(1);
         Ok(())
     }
 
@@ -111,12 +97,16 @@ pub impl Store for FlatRow<'_> as FlatRowStore {
         let Some(i) = self.find(prefix) else {
             return None;
         };
-        self.empty(i)
+        let hop = self.hop_at(i);
+        self.slots[i] = Slot::Free;
+        self.held = self.held.saturating_sub(1);
+        hop
     }
 
     fn clear(&mut self) {
         for i in 0..self.slots.len() {
-            let _ = self.empty(i);
+            self.slots[i] = Slot::Free;
         }
+        self.held = 0;
     }
 }

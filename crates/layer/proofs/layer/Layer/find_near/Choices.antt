@@ -6,4 +6,4 @@ use Rattle.store.specs.Slots.{at, holds}
 use Rattle.layer.proofs.layer.Layer.find_near.Given as given
 
 abbrev pub Inv-loop-attempt : given.InvT-loop-attempt
-Inv-loop-attempt g l = (j : ℕ) → j < l .attempt → (i : ℕ) → i / 3 ≡ g .C·Chooser .bucket (l .prefix) j → holds (row-of (l .prefix)) (at (l .self .slots) i) ≡ false
+Inv-loop-attempt g l = (j : ℕ) → j < l .attempt → (i : ℕ) → i / 3 ≡ g .C·Chooser .bucket (l .prefix) j → holds (row-of (l .prefix)) (at (l .self .buckets .slots) i) ≡ false

@@ -11,7 +11,7 @@ loop-attempt-holds g c = (c .choose-best .ensures ∙ sym (ap (g .C·Chooser .bu
 
 pub loop-attempt-again : need.loop-attempt-again
 loop-attempt-again g c =
-    let xs = c .args .self .now .slots in
+    let xs = c .args .self .now .buckets .slots in
     let p = c .args .prefix .now in
     let more = choice-more (g .C·Chooser .bucket) xs p (c .loop-attempt .attempt) (c .loop-attempt .best) (c .loop-attempt .least) (c .choose-chosen .result) (c .fill-fill .result) (c .loop-attempt .inv .0) (c .loop-attempt .inv .1) (c .choose-chosen .ensures) (c .fill-fill .ensures) in
     elim (c .if-fill-least .came) [
@@ -22,7 +22,7 @@ loop-attempt-again g c =
 pub returns : need.returns
 unfolding choice
 returns g c =
-    let xs = c .args .self .now .slots in
+    let xs = c .args .self .now .buckets .slots in
     let four : c .loop-attempt .attempt ≡ 4 = omega (arith, c .loop-attempt-test .left, c .loop-attempt .kept .attempt-end) in
     let best = c .loop-attempt .inv .0 ∙ ap (λ n. g .C·Chooser .bucket (c .args .prefix .now) (earliest-least (λ j. fill xs (g .C·Chooser .bucket (c .args .prefix .now) j)) n)) four in
     subst (λ b. Frees-in xs b (c .free-in .result)) best (c .free-in .ensures)
