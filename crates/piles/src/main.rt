@@ -156,17 +156,30 @@ fn show<C: Chooser, S: Store>(
     println!(rt, "{name}: found {found}, none {none}, wrong {wrong}")
 }
 
+fn show_one(rt: &LibcRuntime, all: &[Entry]) -> io::Result<()> {
+    let mut slots = [Slot::Free; 16];
+    let mut one = Layer::new(Fnv, FlatRow::new(&mut slots));
+    show(rt, "fnv over row", &mut one, all)
+}
+
+// A second layer on whatever store is lent.
+fn show_above<S: Store>(rt: &LibcRuntime, lower: &mut S, all: &[Entry]) -> io::Result<()> {
+    let mut two = Layer::new(Fold, Lent::new(lower));
+    show(rt, "fold over fnv over row", &mut two, all)
+}
+
+fn show_two(rt: &LibcRuntime, all: &[Entry]) -> io::Result<()> {
+    let mut slots = [Slot::Free; 16];
+    let mut lower = Layer::new(Fnv, FlatRow::new(&mut slots));
+    show_above(rt, &mut lower, all)
+}
+
 fn main(rt: LibcRuntime) -> io::Result<()> {
     let mut bytes = Vec::new(rt.alloc());
     rt.stdin().read_to_end(&mut bytes)?;
     let all = entries(rt.alloc(), bytes.as_slice())?;
     let count = all.len();
     println!(rt, "{count} entries")?;
-    let mut slots = [Slot::Free; 16];
-    let mut one = Layer::new(Fnv, FlatRow::new(&mut slots));
-    show(&rt, "fnv over row", &mut one, all.as_slice())?;
-    let mut more = [Slot::Free; 16];
-    let mut lower = Layer::new(Fnv, FlatRow::new(&mut more));
-    let mut two = Layer::new(Fold, Lent::new(&mut lower));
-    show(&rt, "fold over fnv over row", &mut two, all.as_slice())
+    show_one(&rt, all.as_slice())?;
+    show_two(&rt, all.as_slice())
 }

@@ -19,8 +19,7 @@ impl Generator {
         ensures steps { λ _. ⌜ now (self .exit) .state ≡ (now (self .entry) .state * 6364136223846793005 + 1442695040888963407) % 2 ^ 64 ⌝ }
         ensures draws { λ r. ⌜ r ≡ now (self .exit) .state / 2 ^ 32 ⌝ }
     {
-        self.state = self
-            .state
+        self.state = self.state
             .wrapping_mul(6364136223846793005)
             .wrapping_add(1442695040888963407);
         self.state >> 32

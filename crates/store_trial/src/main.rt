@@ -225,17 +225,34 @@ fn show<S: Store>(
     }
 }
 
+fn try_row(rt: &LibcRuntime) -> io::Result<()> {
+    let mut slots = [Slot::Free; 24];
+    let mut row = FlatRow::new(&mut slots);
+    show(rt, "row", &mut row, 40, 20_000)
+}
+
+fn try_layer(rt: &LibcRuntime) -> io::Result<()> {
+    let mut slots = [Slot::Free; 24];
+    let mut one = Layer::new(Fnv, FlatRow::new(&mut slots));
+    show(rt, "layer", &mut one, 40, 20_000)?;
+    show(rt, "layer", &mut one, 1_300, 20_000)
+}
+
+// A second layer on whatever store is lent.
+fn try_above<S: Store>(rt: &LibcRuntime, lower: &mut S) -> io::Result<()> {
+    let mut two = Layer::new(Fold, Lent::new(lower));
+    show(rt, "pile", &mut two, 40, 20_000)?;
+    show(rt, "pile", &mut two, 2_600, 40_000)
+}
+
+fn try_pile(rt: &LibcRuntime) -> io::Result<()> {
+    let mut slots = [Slot::Free; 24];
+    let mut lower = Layer::new(Fnv, FlatRow::new(&mut slots));
+    try_above(rt, &mut lower)
+}
+
 fn main(rt: LibcRuntime) -> io::Result<()> {
-    let mut first = [Slot::Free; 24];
-    let mut row = FlatRow::new(&mut first);
-    show(&rt, "row", &mut row, 40, 20_000)?;
-    let mut second = [Slot::Free; 24];
-    let mut one = Layer::new(Fnv, FlatRow::new(&mut second));
-    show(&rt, "layer", &mut one, 40, 20_000)?;
-    show(&rt, "layer", &mut one, 1_300, 20_000)?;
-    let mut third = [Slot::Free; 24];
-    let mut lower = Layer::new(Fnv, FlatRow::new(&mut third));
-    let mut two = Layer::new(Fold, Lent::new(&mut lower));
-    show(&rt, "pile", &mut two, 40, 20_000)?;
-    show(&rt, "pile", &mut two, 2_600, 40_000)
+    try_row(&rt)?;
+    try_layer(&rt)?;
+    try_pile(&rt)
 }

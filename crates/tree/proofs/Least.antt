@@ -11,10 +11,12 @@ use Rattle.std.specs.declared.option.Option.{Option}
 use Rattle.std.specs.declared.option.Option.the-variants.{Some, None}
 use Rattle.bits.specs.Lists.{different}
 use Rattle.bits.specs.Rows.{Bits}
-use Rattle.tree.specs.Tree.{Route, Routes, Shape, leaf, fork, forks-at, Pushed, grown, pushed, shapes, alike}
+use Rattle.tree.specs.Tree.{Routes, Shape, leaf, fork, forks-at, Pushed, grown, pushed, shapes, alike}
 use Rattle.tree.specs.Graph.{Edge, end, to, Graph, Inside, Closed, more, walk, Leaf-at, Ends-at-leaves, Reads, reads-end, reads-to}
 use Rattle.bits.proofs.Sets.{different-injected}
-use Rattle.tree.proofs.Shapes.{alike-equality, pushed-forks}
+use Rattle.tree.specs.LeafLaws.{At-most}
+use Rattle.tree.proofs.Shapes.{alike-equality}
+use Rattle.tree.proofs.Pushed.{pushed-is}
 
 -- no leaf of the tree is deeper than n
 abbrev pub Fits : ℕ → Shape → Type 0
@@ -29,10 +31,6 @@ fits-grown (suc n) (false ∷ p) leaf h f = (fits-grown n p leaf (omega arith) t
 fits-grown (suc n) (true ∷ p) leaf h f = (tt, fits-grown n p leaf (omega arith) tt)
 fits-grown (suc n) (false ∷ p) (fork a b) h f = (fits-grown n p a (omega arith) (f .0), f .1)
 fits-grown (suc n) (true ∷ p) (fork a b) h f = (f .0, fits-grown n p b (omega arith) (f .1))
-
--- no prefix is longer than n
-abbrev pub At-most : ℕ → Routes → Type 0
-At-most n rs = (r : Route) → List·Mem r rs → length (r .at) ≤ n
 
 pub fits-pushed : (n : ℕ) (rs : Routes) → At-most n rs → Fits n (pushed rs)
 fits-pushed n [] h = tt
@@ -72,7 +70,7 @@ Follows edge n e t = (q : Bits) → length q ≡ n → walk edge e q ≡ descent
 
 pub follows-start : (W : ℕ) (rs : Routes) (g : Graph) → Fits W (pushed rs) → Ends-at-leaves W rs g → Follows (g .edge) W (g .start) (pushed rs)
 follows-start W rs g fits walks q h =
-    let forks : Pushed rs (pushed rs) = pushed-forks rs in
+    let forks : Pushed rs (pushed rs) = pushed-is rs in
     let (d, l) = leaf-of (pushed rs) q (rw h fits) in
     let at-leaf : Leaf-at rs q d = record { within = l .within; ends = sym (forks (take d q)) ∙ l .ends; before = λ k less. sym (forks (take k q)) ∙ l .before k less } in
     walks q h d .1 at-leaf ∙ sym (l .descends)

@@ -4,15 +4,25 @@ use mathlib.Core.Logic.{_↔_, Or·elim, ∥∥₁-elim}
 use mathlib.Core.List.{List, [], _∷_, _++_, map, map-map, map-append, append-nil, append-assoc, List·Mem, mem-cons-self, mem-cons-of-mem, mem-append, mem-append-left, mem-append-right, mem-map-of-mem, exists-of-mem-map, List·Memᴰ·eq-of-singleton, List·Nodup, nodup-append}
 use mathlib.Core.Bool.{Bool, true, false, false≢true, Bool-set}
 use mathlib.Mathlib.Data.List.Nodup.{nodup-singleton, nodup-map-iff}
-use Prim.Native.Nat.{ℕ, max, _≤_}
+use Prim.Native.Nat.{ℕ, suc, max, _≤_, _<_}
 use native.Mathlib.Omega.{arith}
 use lib.ListN.{length}
 use Rattle.std.proofs.shelf.Tests.{both-ways}
 use Rattle.std.proofs.shelf.Ways.{tells}
 use Rattle.bits.specs.Rows.{Bits, begins}
-use Rattle.tree.specs.Tree.{Route, Routes, Shape, leaf, fork, forks-at, grown, pushed, leaves}
-use Rattle.tree.specs.Laws.{Is-leaf, Leaf-of, depth}
-use Rattle.tree.proofs.Above.{above, above-is}
+use Rattle.tree.specs.Tree.{Routes, Shape, leaf, fork, forks-at, grown, pushed, leaves}
+use Rattle.tree.specs.LeafLaws.{Leaf-of, At-most}
+use Rattle.tree.proofs.Above.{over, above-is}
+
+-- the length of the longest leaf
+abbrev pub depth : Shape → ℕ
+depth leaf = 0
+depth (fork a b) = suc (max (depth a) (depth b))
+
+-- the node does not fork, and every node above it does
+pub record Is-leaf (t : Shape) (q : Bits) : Type 0 where
+  pub ends : forks-at t q ≡ false
+  pub before : (p : Bits) → begins p q ≡ true → length p < length q → forks-at t p ≡ true
 
 abbrev after : Bool → List Bits → List Bits
 after b = map (λ w. b ∷ w)
@@ -62,11 +72,11 @@ ends-forks : (t : Shape) (q : Bits) → ends-at t q ≡ true → forks-at t q �
 ends-forks leaf q e = refl
 ends-forks (fork a b) q e = let left = ends-forks a in let right = ends-forks b in grind arith
 
-ends-above : (t : Shape) (q : Bits) → ends-at t q ≡ true → (p : Bits) → above p q ≡ true → forks-at t p ≡ true
-ends-above leaf q e p h = grind arith
-ends-above (fork a b) q e p h = let left = ends-above a in let right = ends-above b in grind arith
+ends-over : (t : Shape) (q : Bits) → ends-at t q ≡ true → (p : Bits) → over p q ≡ true → forks-at t p ≡ true
+ends-over leaf q e p h = grind arith
+ends-over (fork a b) q e p h = let left = ends-over a in let right = ends-over b in grind arith
 
-forks-ends : (t : Shape) (q : Bits) → forks-at t q ≡ false → ((p : Bits) → above p q ≡ true → forks-at t p ≡ true) → ends-at t q ≡ true
+forks-ends : (t : Shape) (q : Bits) → forks-at t q ≡ false → ((p : Bits) → over p q ≡ true → forks-at t p ≡ true) → ends-at t q ≡ true
 forks-ends leaf [] e h = refl
 forks-ends leaf (c ∷ q) e h = h [] refl
 forks-ends (fork a b) [] e h = grind arith
@@ -75,7 +85,7 @@ forks-ends (fork a b) (true ∷ q) e h = forks-ends b q e (λ p. h (true ∷ p))
 
 pub leaf-is : (t : Shape) (q : Bits) → List·Mem q (leaves t []) ↔ Is-leaf t q
 leaf-is t q = (
-  λ m. let e = leaf-ends t q .0 m in record { ends = ends-forks t q e; before = λ p h l. ends-above t q e p (grind (arith, tells, above-is p q)) },
+  λ m. let e = leaf-ends t q .0 m in record { ends = ends-forks t q e; before = λ p h l. ends-over t q e p (grind (arith, tells, above-is p q)) },
   λ l. leaf-ends t q .1 (forks-ends t q (l .ends) (λ p h. l .before p (grind (arith, above-is p q)) (grind (arith, tells, above-is p q)))),
 )
 
@@ -126,6 +136,6 @@ depth-grown [] t = omega arith
 depth-grown (b ∷ p) t = let ih = depth-grown p in grind arith
 
 -- rows as long as every route are long enough
-pub depth-pushed : (rs : Routes) (n : ℕ) → ((r : Route) → List·Mem r rs → length (r .at) ≤ n) → depth (pushed rs) ≤ n
+pub depth-pushed : (rs : Routes) (n : ℕ) → At-most n rs → depth (pushed rs) ≤ n
 depth-pushed [] n h = omega arith
 depth-pushed (r ∷ rs) n h = rw depth-grown (omega (arith, h r mem-cons-self, depth-pushed rs n (λ s m. h s (mem-cons-of-mem r m))))

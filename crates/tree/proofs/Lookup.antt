@@ -10,25 +10,22 @@ use Rattle.bits.specs.Lists.{any}
 use Rattle.bits.specs.Rows.{Bits, begins}
 use Rattle.tree.specs.Tree.{Route, Routes, pushed, leaves, longest, hop-of}
 use Rattle.bits.proofs.Tests.{any-none}
-use Rattle.tree.proofs.Above.{above, above-is, branching-is}
+use Rattle.bits.proofs.Begins.{begins-length}
+use Rattle.tree.proofs.Above.{over, above-is, branching-is}
 use Rattle.tree.proofs.Pushed.{pushed-is}
 use Rattle.tree.proofs.Leaves.{leaf-is}
 
 -- of a row that begins with q, a beginning that is no longer than q is one of q
-within : (p q a : Bits) → begins q a ≡ true → above q p ≡ false → begins p a ≡ begins p q
+pub within : (p q a : Bits) → begins q a ≡ true → over q p ≡ false → begins p a ≡ begins p q
 within [] q a h n = refl
 within (d ∷ p) q a h n = let ih = within p in grind arith
 
-no-branch : (rs : Routes) (q a : Bits) → begins q a ≡ true → any (λ r. above q (r .at)) rs ≡ false → longest rs a ≡ longest rs q
+pub no-branch : (rs : Routes) (q a : Bits) → begins q a ≡ true → any (λ r. over q (r .at)) rs ≡ false → longest rs a ≡ longest rs q
 no-branch [] q a h n = refl
 no-branch (r ∷ rs) q a h n = let ih = no-branch rs q a in let same-match = within (r .at) q a in grind arith
 
-begins-length : (p q : Bits) → begins p q ≡ true → length p ≤ length q
-begins-length [] q h = omega arith
-begins-length (b ∷ p) q h = let ih = begins-length p in grind arith
-
 module _ (rs : Routes) (q : Bits) (is-leaf : List·Mem q (leaves (pushed rs) [])) where
-  nothing-below : any (λ r. above q (r .at)) rs ≡ false
+  pub nothing-below : any (λ r. over q (r .at)) rs ≡ false
   nothing-below = sym (branching-is rs q) ∙ sym (pushed-is rs q) ∙ leaf-is (pushed rs) q .0 is-leaf .ends
 
   -- no route that begins with a leaf is longer than the leaf

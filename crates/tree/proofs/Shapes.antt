@@ -1,20 +1,17 @@
--- The tree of the routes: `alike` tells its shapes apart, and it branches where the routes say. Assumes nothing.
-use mathlib.Core.Path.{_≡_, refl, _∙_}
-use mathlib.Core.List.{[], _∷_}
-use mathlib.Core.Bool.{true, _&&_, _||_}
+-- `alike` tells equality. Assumes nothing.
+use mathlib.Core.Path.{_≡_, refl}
+use mathlib.Core.Logic.{_↔_}
+use mathlib.Core.Bool.{true}
 use native.Mathlib.Omega.{arith}
-use lib.Dec.{ltb}
-use lib.ListN.{length}
 use Rattle.std.proofs.shelf.Tests.{and-parts}
-use Rattle.bits.specs.Rows.{Bits, begins}
-use Rattle.tree.specs.Tree.{Routes, Shape, leaf, fork, forks-at, Pushed, grown, pushed, alike}
-use Rattle.bits.proofs.Sets.{Equality}
+use Rattle.tree.specs.Tree.{Shape, leaf, fork, alike}
+use Rattle.bits.proofs.Sets.{Equality, test-swap}
 
-alike-self : (a : Shape) → alike a a ≡ true
+pub alike-self : (a : Shape) → alike a a ≡ true
 alike-self leaf = refl
 alike-self (fork a b) = let left = alike-self a in let right = alike-self b in grind arith
 
-alike-sound : (a b : Shape) → alike a b ≡ true → a ≡ b
+pub alike-sound : (a b : Shape) → alike a b ≡ true → a ≡ b
 alike-sound leaf leaf h = refl
 alike-sound leaf (fork c d) h = cc
 alike-sound (fork a b) leaf h = cc
@@ -27,13 +24,9 @@ alike-sound (fork a b) (fork c d) h =
 pub alike-equality : Equality alike
 alike-equality = record { sound = λ {x} {y} h. alike-sound x y h; self = alike-self }
 
--- the grown tree branches at the nodes above p and where the tree did
-pub forks-grown : (p : Bits) (t : Shape) (q : Bits) → forks-at (grown p t) q ≡ (ltb (length q) (length p) && begins q p || forks-at t q)
-forks-grown [] t q = grind arith
-forks-grown (b ∷ p) t [] = grind arith
-forks-grown (b ∷ p) leaf (c ∷ q) = let below = forks-grown p leaf q in grind arith
-forks-grown (b ∷ p) (fork l r) (c ∷ q) = let left = forks-grown p l q in let right = forks-grown p r q in grind arith
+pub alike-is : (s t : Shape) → (alike s t ≡ true) ↔ (s ≡ t)
+alike-is s t = (alike-sound s t, λ e. rw (← e) (alike-self s))
 
-pub pushed-forks : (rs : Routes) → Pushed rs (pushed rs)
-pushed-forks [] q = refl
-pushed-forks (r ∷ rs) q = let ih = pushed-forks rs q in forks-grown (r .at) (pushed rs) q ∙ grind arith
+-- a mirrored shape is another one, unless its sides are alike
+pub mirrored : (s t : Shape) → alike (fork s t) (fork t s) ≡ alike s t
+mirrored s t = let swap = test-swap alike-equality s t in grind arith

@@ -1,7 +1,14 @@
 pub mod Tree
 pub mod Ledger
 pub mod Graph
-pub mod Example
 pub mod Law
-pub mod Laws
-pub mod Claims
+pub mod Example
+pub mod Changes
+pub mod TreeLaws
+pub mod LeafLaws
+pub mod HopLaws
+pub mod CountLaws
+pub mod ShapeLaws
+pub mod GraphLaws
+pub mod LedgerLaws
+pub mod StoreLaws

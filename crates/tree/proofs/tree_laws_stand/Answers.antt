@@ -1,13 +1,32 @@
+use mathlib.Core.Path.{sym, _∙_}
 use Rattle.tree.proofs.tree_laws_stand.Needs as need
+use Rattle.tree.specs.Tree.{pushed}
 use Rattle.tree.proofs.Pushed.{one-tree, pushed-is}
-use Rattle.tree.proofs.Changes.{entering, striking, children}
-use Rattle.tree.proofs.Longest.{longest-some, longest-none}
-use Rattle.tree.proofs.Leaves.{leaf-is, leaves-once, down, one-leaf, depth-pushed}
-use Rattle.tree.proofs.Lookup.{no-longer, match-fits, hop-by-leaf}
+use Rattle.tree.proofs.Prefixes.{pushed-by-prefixes}
+use Rattle.tree.proofs.Nodes.{nodes, nodes-short, leaf-nodes, shape-below, branching-shapes}
+use Rattle.tree.proofs.Changes.{entering, entering-forks, striking, children, undoing, entering-beside, striking-beside, entering-node, standing-node}
 
 pub returns : need.returns
 returns c = record {
-  tree = record { one-tree = one-tree; pushed-is = pushed-is; entering = entering; striking = striking; children = children };
-  leaf = record { leaf-is = leaf-is; leaves-once = leaves-once; one-leaf = λ t a h. (down t a, one-leaf t a h); depth-pushed = depth-pushed };
-  found = record { longest-some = longest-some; longest-none = longest-none; no-longer = no-longer; match-fits = match-fits; hop-by-leaf = hop-by-leaf };
+  tree = record {
+    pushed-is = pushed-is;
+    one-tree = λ rs t h. one-tree t (pushed rs) (λ q. h q ∙ sym (pushed-is rs q));
+    nodes = nodes;
+    leaf-nodes = leaf-nodes;
+    nodes-short = nodes-short;
+    shape-below = shape-below;
+    branching-shapes = branching-shapes;
+    by-prefixes = pushed-by-prefixes;
+  };
+  change = record {
+    entering = entering;
+    entering-forks = entering-forks;
+    striking = striking;
+    children = children;
+    undoing = undoing;
+    entering-beside = entering-beside;
+    striking-beside = striking-beside;
+    entering-node = entering-node;
+    standing-node = standing-node;
+  };
 }

@@ -32,6 +32,7 @@ add-self c =
 pub ghost-self : need.ghost-self
 ghost-self c =
     let xs = c .args .self .now .slots in
-    let inside : c .args .i < length xs = omega (arith, c .if-i-ge-SLOTS .left, c .args .self .now .long) in
-    (length-set xs (c .args .i) _ ∙ c .args .self .now .long,
-    (omega (arith, c .args .self .now .counted, c .size-at-before .ensures, c .size-after .ensures, used-set xs (c .args .i) (c .args .slot) inside, used-set xs (c .args .i) Free inside), tt))
+    let inside : c .args .i < length xs = omega (arith, c .if-i-ge-SLOTS .left, c .args .self .now .long) in (
+      length-set xs (c .args .i) _ ∙ c .args .self .now .long,
+      (omega (arith, c .args .self .now .counted, c .size-at-before .ensures, c .size-after .ensures, used-set xs (c .args .i) (c .args .slot) inside, used-set xs (c .args .i) Free inside), tt),
+    )

@@ -21,5 +21,5 @@ returns c =
     record {
       keeps = row-sound xs 0 (apart-none xs none) (sym none) (omega arith);
       empties = row-empty xs (λ k l. c .loop-i .inv k (omega arith));
-      limits = ap (λ n. min n 1048576) (c .loop-i .kept .slots)
+      limits = ap (λ n. min n 1048576) (c .loop-i .kept .slots);
     }

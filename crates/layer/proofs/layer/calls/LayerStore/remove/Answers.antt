@@ -18,7 +18,7 @@ pub returns : need.returns
 returns g c =
     let self = c .args .self .now in
     let done = λ (sound : Sound-layer (g .C·Chooser .bucket) (g .S·Store .kept) (g .S·Store .content) self).
-      taken-as (g .C·Chooser .bucket) (c .args .prefix .now) (self .buckets .slots) (c .saturating-sub-self .result) (g .S·Store .kept (self .below)) (g .S·Store .content (self .below)) _ (c .hop-at-hop .result) _ _ (c .write .ensures) (c .hop-at-hop .ensures)
-        (taken-own (g .C·Chooser .bucket) (c .args .prefix .now) (self .buckets .slots) (self .strays) (g .S·Store .kept (self .below)) (g .S·Store .content (self .below)) sound (c .in-Some .i) (c .saturating-sub-self .result)
-          (sym (c .in-Some .ensures tt .exact (sound .kept))) (c .saturating-sub-self .ensures ∙ ap (λ n. self .strays - n) (c .astray-stray .ensures))) in
+    taken-as (g .C·Chooser .bucket) (c .args .prefix .now) (self .buckets .slots) (c .saturating-sub-self .result) (g .S·Store .kept (self .below)) (g .S·Store .content (self .below)) _ (c .hop-at-hop .result) _ _ (c .write .ensures) (c .hop-at-hop .ensures)
+    (taken-own (g .C·Chooser .bucket) (c .args .prefix .now) (self .buckets .slots) (self .strays) (g .S·Store .kept (self .below)) (g .S·Store .content (self .below)) sound (c .in-Some .i) (c .saturating-sub-self .result)
+    (sym (c .in-Some .ensures tt .exact (sound .kept))) (c .saturating-sub-self .ensures ∙ ap (λ n. self .strays - n) (c .astray-stray .ensures))) in
     record { limits = refl; keeps = λ s. done s .0; removes = λ s. done s .1 .0; places = λ s. done s .1 .1 }

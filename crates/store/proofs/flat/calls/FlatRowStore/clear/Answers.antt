@@ -14,11 +14,12 @@ use Rattle.store.proofs.flat.calls.FlatRowStore.clear.Needs as need
 pub loop-i-again : need.loop-i-again
 loop-i-again c =
     let xs = c .loop-i .self .slots .now in
-    let i = c .loop-i .i in
-    (below-more _ _
-      (λ k h. let ne : k ≢ i = omega arith in getD-set-other xs i k Free Free ne ∙ c .loop-i .inv .0 k h)
-      (let lt : i < length xs = omega (arith, c .loop-i .inv .1, c .loop-i-test .taken) in getD-set-same xs i Free Free lt),
-    length-set xs i Free ∙ c .loop-i .inv .1)
+    let i = c .loop-i .i in (
+      below-more _ _
+          (λ k h. let ne : k ≢ i = omega arith in getD-set-other xs i k Free Free ne ∙ c .loop-i .inv .0 k h)
+          (let lt : i < length xs = omega (arith, c .loop-i .inv .1, c .loop-i-test .taken) in getD-set-same xs i Free Free lt),
+      length-set xs i Free ∙ c .loop-i .inv .1,
+    )
 
 pub returns : need.returns
 returns c =
@@ -27,5 +28,5 @@ returns c =
     record {
       limits = ap (λ n. min n 1048576) (c .loop-i .inv .1);
       keeps = row-sound xs 0 (apart-none xs none) (sym none) (omega arith);
-      empties = row-empty xs (λ k l. c .loop-i .inv .0 k (omega (arith, l, c .loop-i .inv .1, c .loop-i-test .left)))
+      empties = row-empty xs (λ k l. c .loop-i .inv .0 k (omega (arith, l, c .loop-i .inv .1, c .loop-i-test .left)));
     }

@@ -30,8 +30,8 @@ returns-in-Some c =
     record {
       limits = ap (λ n. min n 1048576) (length-set xs (c .in-Some .i) _);
       keeps = λ s. (let r = replaced xs (s .kept .apart) p (c .in-Some .i) (c .args .hop) e in
-        row-sound _ (c .args .self .now .held) (r .0) (omega (arith, s .kept .counted, r .1)) (omega (arith, s .within, r .1)));
-      puts = λ s. put-held xs (s .kept .apart) p (c .in-Some .i) (c .args .hop) e (good (c .args .hop) (c .if-hop-eq0 .left) (c .if-hop-gt65535 .left))
+          row-sound _ (c .args .self .now .held) (r .0) (omega (arith, s .kept .counted, r .1)) (omega (arith, s .within, r .1)));
+      puts = λ s. put-held xs (s .kept .apart) p (c .in-Some .i) (c .args .hop) e (good (c .args .hop) (c .if-hop-eq0 .left) (c .if-hop-gt65535 .left));
     }
 
 pub returns-then-self-limit : need.returns-then-self-limit
@@ -40,7 +40,7 @@ returns-then-self-limit c =
     record {
       limits = refl;
       keeps = λ s. s;
-      puts = λ s. put-full xs (s .kept .apart) (c .args .prefix .now) (c .args .hop) (sym (c .in-rest .ensures tt)) (omega (arith, s .kept .counted, c .limit .ensures .answer, c .if-self-limit .taken)) (good (c .args .hop) (c .if-hop-eq0 .left) (c .if-hop-gt65535 .left))
+      puts = λ s. put-full xs (s .kept .apart) (c .args .prefix .now) (c .args .hop) (sym (c .in-rest .ensures tt)) (omega (arith, s .kept .counted, c .limit .ensures .answer, c .if-self-limit .taken)) (good (c .args .hop) (c .if-hop-eq0 .left) (c .if-hop-gt65535 .left));
     }
 
 pub returns-in-rest-find-free : need.returns-in-rest-find-free
@@ -50,7 +50,7 @@ returns-in-rest-find-free c =
     record {
       limits = refl;
       keeps = λ s. s;
-      puts = λ s. absurd (omega (arith, all, s .kept .counted, s .within, c .limit .ensures .answer, c .if-self-limit .left))
+      puts = λ s. absurd (omega (arith, all, s .kept .counted, s .within, c .limit .ensures .answer, c .if-self-limit .left));
     }
 
 pub returns : need.returns
@@ -62,6 +62,6 @@ returns c =
     record {
       limits = ap (λ n. min n 1048576) (length-set xs (c .in-Some-find-free .i) _);
       keeps = λ s. (let r = entered xs (s .kept .apart) p (c .in-Some-find-free .i) (c .args .hop) e (free .0) (free .1) in
-        row-sound _ (c .saturating-add-self .result) (r .0) (omega (arith, s .kept .counted, s .within, r .1, c .saturating-add-self .ensures)) (omega (arith, s .kept .counted, s .within, r .1, c .limit .ensures .answer, c .if-self-limit .left)));
-      puts = λ s. put-new xs (s .kept .apart) p (c .in-Some-find-free .i) (c .args .hop) e (free .0) (free .1) (λ z. omega (arith, z, s .kept .counted, c .limit .ensures .answer, c .if-self-limit .left)) (good (c .args .hop) (c .if-hop-eq0 .left) (c .if-hop-gt65535 .left))
+          row-sound _ (c .saturating-add-self .result) (r .0) (omega (arith, s .kept .counted, s .within, r .1, c .saturating-add-self .ensures)) (omega (arith, s .kept .counted, s .within, r .1, c .limit .ensures .answer, c .if-self-limit .left)));
+      puts = λ s. put-new xs (s .kept .apart) p (c .in-Some-find-free .i) (c .args .hop) e (free .0) (free .1) (λ z. omega (arith, z, s .kept .counted, c .limit .ensures .answer, c .if-self-limit .left)) (good (c .args .hop) (c .if-hop-eq0 .left) (c .if-hop-gt65535 .left));
     }

@@ -18,7 +18,7 @@ returns-in-rest c =
     record {
       limits = refl;
       keeps = λ s. s;
-      removes = λ _. not-there (row-content xs) (row-of (c .args .prefix .now)) (ap (told-at xs) (sym (c .in-rest .ensures tt)))
+      removes = λ _. not-there (row-content xs) (row-of (c .args .prefix .now)) (ap (told-at xs) (sym (c .in-rest .ensures tt)));
     }
 
 pub index-self-i : need.index-self-i
@@ -35,6 +35,6 @@ returns c =
     record {
       limits = ap (λ n. min n 1048576) (length-set xs i Free);
       keeps = λ s. (let t = taken-out xs (s .kept .apart) q i (sym (c .in-Some .ensures tt)) in
-        row-sound (set xs i Free) (c .saturating-sub-self .result) (t .0) (omega (arith, t .1, s .kept .counted, c .saturating-sub-self .ensures)) (omega (arith, t .1, s .within)));
-      removes = λ s. subst (Removes q (row-content xs) (row-content (set xs i Free))) (sym (c .hop-at-hop .ensures)) (removed xs (s .kept .apart) q i (sym (c .in-Some .ensures tt)))
+          row-sound (set xs i Free) (c .saturating-sub-self .result) (t .0) (omega (arith, t .1, s .kept .counted, c .saturating-sub-self .ensures)) (omega (arith, t .1, s .within)));
+      removes = λ s. subst (Removes q (row-content xs) (row-content (set xs i Free))) (sym (c .hop-at-hop .ensures)) (removed xs (s .kept .apart) q i (sym (c .in-Some .ensures tt)));
     }
