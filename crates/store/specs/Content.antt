@@ -7,7 +7,6 @@
 --   Map                 what is told of each row
 --   Content             a map, the number of its rows, and how many it may have
 --   Counted m n         the map has exactly n rows
---   bad-hop h           the number is no hop: 0, or over 65,535
 --   put-refusal c q h   the first check that refuses to set the hop h for the row q
 --   Wrote q t a b       the row q is told as t now, and every other row as before; a before, b after
 --   Puts q h a b r      what setting the hop h for the row q answers and leaves
@@ -28,6 +27,7 @@ use Rattle.std.specs.declared.result.Result.{Result}
 use Rattle.bits.specs.Lists.{any}
 use Rattle.bits.specs.Rows.{Bits, same}
 use Rattle.bits.proofs.Sets.{No-repeats}
+pub use Rattle.refusal.specs.Hops.{bad-hop}
 use Rattle.refusal.specs.declared.Refusal.{Refusal}
 use Rattle.refusal.specs.declared.Refusal.the-variants.{Hop, StoreFull}
 
@@ -62,9 +62,6 @@ pub record Listed (m : Map) (n : ℕ) (rows : List Bits) : Type 0 where
 
 abbrev pub Counted : Map → ℕ → Type 0
 Counted m n = ∥ ((rows : List Bits) × Listed m n rows) ∥₁
-
-abbrev pub bad-hop : ℕ → Bool
-bad-hop h = eqb h 0 || ltb 65535 h
 
 abbrev pub put-refusal : Content → Bits → ℕ → Option Refusal
 put-refusal c q h = cond (bad-hop h) (Some Hop) (cond (not (present (c .map q)) && eqb (c .held) (c .limit)) (Some StoreFull) None)

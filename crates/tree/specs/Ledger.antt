@@ -2,7 +2,6 @@
 --   Given                       what the ledger knows of the engine: the width and the two stores' limits
 --   Call                        announce (address, length, hop), withdraw (address, length), lookup (address), count
 --   Answer                      changed n (n new branching shapes), hop h, none, counts (routes, matched leaves, vertices), refused r
---   greatest-hop                hops are 1 to 65,535
 --   vertex-slots                how many branching shapes there is room for
 --   stands rs p                 a route of the prefix p stands
 --   struck rs p                 the routes without that of p
@@ -15,12 +14,13 @@
 --   after-calls g rs cs         the list after the calls cs, one after the other
 --   answers g rs cs             the answer to each
 use mathlib.Core.List.{List, [], _∷_, _++_}
-use mathlib.Core.Bool.{Bool, true, false, not, _&&_, _||_}
+use mathlib.Core.Bool.{Bool, true, false, not, _&&_}
 use Prim.Native.Nat.{ℕ}
 use lib.Dec.{ltb, eqb}
 use lib.ListN.{length, take, drop}
 use Rattle.std.specs.declared.option.Option.{Option}
 use Rattle.std.specs.declared.option.Option.the-variants.{Some, None}
+pub use Rattle.refusal.specs.Hops.{greatest-hop, bad-hop}
 use Rattle.refusal.specs.declared.Refusal.{Refusal}
 use Rattle.refusal.specs.declared.Refusal.the-variants.{Length, HostBits, Hop, Unknown, RoutesFull, LeavesFull, VerticesFull}
 use Rattle.bits.specs.Lists.{any, different, only}
@@ -44,9 +44,6 @@ pub data Answer : Type 0 where
   none : Answer
   counts : ℕ → ℕ → ℕ → Answer
   refused : Refusal → Answer
-
-abbrev pub greatest-hop : ℕ
-greatest-hop = 65535
 
 abbrev pub vertex-slots : ℕ
 vertex-slots = 2048
@@ -93,7 +90,7 @@ module _ (g : Given) where
   announce-checks rs a n h =
       let new : Bool = not (stands rs (take n a)) in
       let after : Routes = entered rs (take n a) h in
-      checks (prefix-checks a n ++ (eqb h 0 || ltb greatest-hop h, Hop)
+      checks (prefix-checks a n ++ (bad-hop h, Hop)
       ∷ (new && eqb (length rs) (g .route-limit), RoutesFull)
       ∷ (new && ltb (g .leaf-limit) (length (matched after)), LeavesFull)
       ∷ (new && ltb vertex-slots (together rs after), VerticesFull) ∷ [])
