@@ -1,5 +1,5 @@
 // The bucket layer: a store of 256 buckets with three slots each, on any other store.
-pub mod bucket;
+mod bucket;
 pub mod layer;
 pub mod place;
 
