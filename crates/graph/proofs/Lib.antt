@@ -1,0 +1,14 @@
+pub mod Once
+pub mod Edges
+pub mod Unfold
+pub mod Count
+pub mod Added
+pub mod Finding
+pub mod Forking
+pub mod View
+pub mod Depth
+pub mod Marking
+pub mod Sweeping
+pub mod Back
+pub mod Growing
+pub mod Walking
