@@ -1,0 +1,4 @@
+pub mod Buckets
+pub mod Layers
+pub mod Places
+pub mod Views
