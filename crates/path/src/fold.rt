@@ -1,13 +1,12 @@
 // Folding the graph back along a prefix's path: made bottom up, beside what the table has.
 ghost use mathlib.Core.Path.{_≡_};
-ghost use mathlib.Core.Bool.{not, _&&_, _||_};
 ghost use mathlib.Core.List.{[], _∷_, _++_};
 ghost use Prim.Native.Nat.{_<_};
 ghost use lib.ListN.{length, take, drop};
 ghost use Rattle.net.specs.Prefix.{row-of};
 ghost use Rattle.store.specs.Content.{Sound};
 ghost use Rattle.graph.specs.Calls.{Kept};
-ghost use Rattle.path.specs.Prune.{others, seen-from, ends-in, Folds, Prunes};
+ghost use Rattle.path.specs.Prune.{others, seen-from, owning, folding, Folds, Prunes};
 use super::lead::lead;
 use graph::Edge;
 use graph::EdgePartialEq;
@@ -28,13 +27,21 @@ fn stands<R: Store>(routes: &R, node: &Prefix, one: bool, struck: &Prefix) -> bo
     }
 }
 
-// Whether the node `depth` bits down is a leaf: neither of its children branches or has a route of its own.
-fn ends<R: Store>(routes: &R, prefix: &Prefix, depth: usize, below: Edge, beside: Edge) -> bool
+// Whether a child of the node `depth` bits down the prefix's path has a route, other than the prefix's own.
+fn owns<R: Store>(routes: &R, prefix: &Prefix, depth: usize) -> bool
     ensures { λ r. ⌜ (Sound (R·Store .kept (now (routes .entry))) (R·Store .content (now (routes .entry))) → depth < length (row-of (now (prefix .entry)))
-        → r ≡ ends-in (seen-from (take depth (row-of (now (prefix .entry)))) (others (R·Store .content (now (routes .entry)) .map) (row-of (now (prefix .entry))))) below beside) ⌝ }
+        → r ≡ owning (seen-from (take depth (row-of (now (prefix .entry)))) (others (R·Store .content (now (routes .entry)) .map) (row-of (now (prefix .entry)))))) ⌝ }
 {
     let node = prefix.front(depth);
-    below == Edge::End && beside == Edge::End && !stands(routes, &node, false, prefix) && !stands(routes, &node, true, prefix)
+    stands(routes, &node, false, prefix) || stands(routes, &node, true, prefix)
+}
+
+// Whether that node is a leaf: neither side branches, and no child has a route of its own.
+fn ends<R: Store>(routes: &R, prefix: &Prefix, depth: usize, below: Edge, beside: Edge) -> bool
+    ensures { λ r. ⌜ (Sound (R·Store .kept (now (routes .entry))) (R·Store .content (now (routes .entry))) → depth < length (row-of (now (prefix .entry)))
+        → r ≡ folding (seen-from (take depth (row-of (now (prefix .entry)))) (others (R·Store .content (now (routes .entry)) .map) (row-of (now (prefix .entry))))) below beside) ⌝ }
+{
+    below == Edge::End && beside == Edge::End && !owns(routes, prefix, depth)
 }
 
 // From a node of the prefix's path, `depth` bits down.
