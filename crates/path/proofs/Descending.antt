@@ -36,7 +36,7 @@ vertex-forks n is h = sym (end-leaf h) ∙ ap is-end is
 pub follows : (xs : List Vertex) (node e : Edge) (t : Shape) (b c : Bool) → e ≡ next xs (led xs node) c → c ≡ b → Unfolds xs node t → Unfolds xs e (side b t)
 follows xs node e t b c is same h = rw (is, same) (unfolds-side b (taken h))
 
-forks-shape : (t : Shape) (q : Bits) → forks-at t q ≡ not (is-leaf (shape-at t q))
+pub forks-shape : (t : Shape) (q : Bits) → forks-at t q ≡ not (is-leaf (shape-at t q))
 forks-shape leaf [] = refl
 forks-shape leaf (c ∷ q) = refl
 forks-shape (fork l r) [] = refl

@@ -1,6 +1,6 @@
 -- Folding a path back: one step up, and what the whole path leaves. Assumes nothing.
 use mathlib.Core.Path.{_≡_, refl, sym, _∙_, ap, subst, fun-ext}
-use mathlib.Core.Logic.{∥∥₁-elim}
+use mathlib.Core.Logic.{inl, inr}
 use mathlib.Core.List.{List, [], _∷_, _++_, List·Mem, not-mem-nil}
 use mathlib.Core.Bool.{Bool, true, false, not, _&&_, _||_}
 use Prim.Native.Nat.{ℕ, _+_, _<_, _≤_}
@@ -8,7 +8,7 @@ use native.Mathlib.Omega.{arith}
 use lib.ListN.{length, take, drop, getD}
 use Rattle.std.proofs.shelf.Lists.{length-take-le, take-more, drop-all, append-assoc}
 use Rattle.std.proofs.shelf.Results.{cases-weaker}
-use Rattle.std.proofs.shelf.Tests.{true≢false, or-left}
+use Rattle.std.proofs.shelf.Tests.{cases-bool, true≢false, or-left}
 use Rattle.std.specs.Results.{Cases}
 use Rattle.std.specs.declared.result.Result.{Result}
 use Rattle.bits.specs.Rows.{Bits}
@@ -26,7 +26,7 @@ use Rattle.graph.specs.View.{Holds}
 use Rattle.graph.specs.declared.edge.Edge.{Edge}
 use Rattle.graph.specs.declared.edge.Edge.the-variants.{End, To}
 use Rattle.graph.specs.declared.vertex.Vertex.{Vertex}
-use Rattle.graph.proofs.Growing.{side, taken, left-within, right-within, new-none, stopped-up, refused-up, made-up, grown-whole, too-many}
+use Rattle.graph.proofs.Growing.{side, taken, goes-on, left-within, right-within, new-none, stopped-up, refused-up, made-up, grown-whole, too-many}
 use Rattle.path.specs.Prune.{others, seen-from, owning, is-end, folding, Folds, Prunes}
 use Rattle.path.proofs.Descending.{is-leaf, end-leaf, vertex-forks, follows}
 
@@ -48,13 +48,15 @@ pruned-end own [] = refl
 pruned-end own (c ∷ p) = refl
 
 -- a branching node's fold, by the side that the row goes on
-pruned-zero : (own : Bits → Bool) (p : Bits) (t : Shape) → is-leaf t ≡ false → pruned own t (false ∷ p) ≡ folded (owning own) (pruned (below false own) (side false t) p) (side true t)
-pruned-zero own p leaf h = absurd (true≢false h)
-pruned-zero own p (fork l r) h = refl
+pruned-zero : (own : Bits → Bool) (b : Bool) (p : Bits) (t : Shape) → is-leaf t ≡ false → b ≡ false → pruned own t (b ∷ p) ≡ folded (owning own) (pruned (below b own) (side b t) p) (side (not b) t)
+pruned-zero own b p leaf h is = absurd (true≢false h)
+pruned-zero own false p (fork l r) h is = refl
+pruned-zero own true p (fork l r) h is = absurd (true≢false is)
 
-pruned-one : (own : Bits → Bool) (p : Bits) (t : Shape) → is-leaf t ≡ false → pruned own t (true ∷ p) ≡ folded (owning own) (side false t) (pruned (below true own) (side true t) p)
-pruned-one own p leaf h = absurd (true≢false h)
-pruned-one own p (fork l r) h = refl
+pruned-one : (own : Bits → Bool) (b : Bool) (p : Bits) (t : Shape) → is-leaf t ≡ false → b ≡ true → pruned own t (b ∷ p) ≡ folded (owning own) (side (not b) t) (pruned (below b own) (side b t) p)
+pruned-one own b p leaf h is = absurd (true≢false h)
+pruned-one own true p (fork l r) h is = refl
+pruned-one own false p (fork l r) h is = absurd (true≢false (sym is))
 
 -- a tree with a branching shape is no leaf
 some-shape : (c s : Shape) → List·Mem s (shapes c) → is-leaf c ≡ false
@@ -92,84 +94,88 @@ above-it xs node own p t is h = subst (λ s. Pathed xs xs (pruned own s p) End) 
     (rw (pruned-end own p) (record { unfolds = unfolds-end; new = new-none xs [] }))
 
 -- the test of nodes, one bit down the row
-pub one-down : (row : Bits) (d : ℕ) (b : Bool) (own : Bits → Bool) → d < length row → getD row d false ≡ b → seen-from (take (d + 1) row) own ≡ below b (seen-from (take d row) own)
+one-down : (row : Bits) (d : ℕ) (b : Bool) (own : Bits → Bool) → d < length row → getD row d false ≡ b → seen-from (take (d + 1) row) own ≡ below b (seen-from (take d row) own)
 one-down row d b own less is = fun-ext (λ q. ap own (ap (λ r. r ++ q) (take-more row d false less ∙ ap (λ c. take d row ++ (c ∷ [])) is) ∙ append-assoc (take d row) (b ∷ []) q))
 
--- from a node of the path, whose row goes on with a bit and then p: below it e was made from xs to ys, and then the fork gave r and zs
-module _ (xs ys : List Vertex) (node : Edge) (n : ℕ) (is : node ≡ To n) (t : Shape) (h : Unfolds xs node t) (kept : Kept xs ys) (own : Bits → Bool) (p : Bits) where
-  -- the folded side
-  abbrev pub under : Bool → Shape
-  under b = pruned (below b own) (side b t) p
+-- from a vertex d bits down the path, where b is the row's next bit: below it the path was folded from xs to ys
+module _ (xs ys : List Vertex) (node : Edge) (n : ℕ) (is : node ≡ To n) (t : Shape) (h : Unfolds xs node t) (own : Bits → Bool) (row : Bits) (d : ℕ) (b : Bool) (less : d < length row) (bit : b ≡ getD row d false) where
+  abbrev test : Bits → Bool
+  test = seen-from (take d row) own
+
+  -- the node's tree, and the two sides of it: the folded one, and the one beside the path
+  abbrev whole : Shape
+  whole = pruned test t (drop d row)
+
+  abbrev under : Shape
+  under = pruned (seen-from (take (d + 1) row) own) (side b t) (drop (d + 1) row)
+
+  abbrev beyond : Shape
+  beyond = side (not b) t
+
+  under-is : pruned (below b test) (side b t) (drop (d + 1) row) ≡ under
+  under-is = ap (λ o. pruned o (side b t) (drop (d + 1) row)) (sym (one-down row d b own less (sym bit)))
 
   forks : is-leaf t ≡ false
   forks = vertex-forks n is h
 
-  pub up-stopped : (b : Bool) (row : Bits) (why : Refusal) → row ≡ b ∷ p → Stopped xs ys (under b) why → Stopped xs ys (pruned own t row) why
-  up-stopped false row why on stop =
-      let some = some-shape (under false) (stop .missing .0) (stop .missing .1) in
-      rw (on, pruned-zero own p t forks, folded-fork (owning own) (under false) (side true t) (grind arith))
-      (stopped-up xs ys (under false) (side true t) (under false) (left-within _ _) why stop)
-  up-stopped true row why on stop =
-      let some = some-shape (under true) (stop .missing .0) (stop .missing .1) in
-      rw (on, pruned-one own p t forks, folded-fork (owning own) (side false t) (under true) (grind arith))
-      (stopped-up xs ys (side false t) (under true) (under true) (right-within _ _) why stop)
+  on-zero : b ≡ false → whole ≡ folded (owning test) under beyond
+  on-zero zero = ap (pruned test t) (goes-on row d b less (sym bit)) ∙ pruned-zero test b (drop (d + 1) row) t forks zero ∙ ap (λ s. folded (owning test) s beyond) under-is
 
-  module _ (b : Bool) (e beside : Edge) (path : Pathed xs ys (under b) e) (to : beside ≡ next xs (led xs node) (not b)) where
-    other : Unfolds xs beside (side (not b) t)
+  on-one : b ≡ true → whole ≡ folded (owning test) beyond under
+  on-one one = ap (pruned test t) (goes-on row d b less (sym bit)) ∙ pruned-one test b (drop (d + 1) row) t forks one ∙ ap (λ s. folded (owning test) beyond s) under-is
+
+  -- what stops the path below it stops it
+  pub up-stopped : (why : Refusal) → Stopped xs ys under why → Stopped xs ys whole why
+  up-stopped why stop = elim (cases-bool b) [
+    | inl one ↦ subst (λ s. Stopped xs ys s why) (sym (on-one one ∙ folded-fork _ beyond under (grind (arith, some)))) (stopped-up xs ys beyond under under (right-within _ _) why stop)
+    | inr zero ↦ subst (λ s. Stopped xs ys s why) (sym (on-zero zero ∙ folded-fork _ under beyond (grind (arith, some)))) (stopped-up xs ys under beyond under (left-within _ _) why stop)
+  ]
+    where
+      some : is-leaf under ≡ false
+      some = some-shape under (stop .missing .0) (stop .missing .1)
+
+  module _ (e beside : Edge) (path : Pathed xs ys under e) (to : beside ≡ next xs (led xs node) (not b)) where
+    other : Unfolds xs beside beyond
     other = follows xs node beside t (not b) (not b) to refl h
 
     -- neither side branches, and no child has a route of its own
-    pub up-leaf : (row : Bits) → row ≡ b ∷ p → folding own e beside ≡ true → Pathed xs ys (pruned own t row) End
-    up-leaf row on ends =
-        let new : New xs ys [] = subst (λ s. New xs ys (shapes s)) (leaf-is (under b) one) (path .new) in
-        subst (λ s. Pathed xs ys s End) (sym (ap (pruned own t) on ∙ folds b one two)) (record { unfolds = unfolds-end; new = new })
+    pub up-leaf : folding test e beside ≡ true → Pathed xs ys whole End
+    up-leaf ends = subst (λ s. Pathed xs ys s End) (sym bare) (record { unfolds = unfolds-end; new = subst (λ s. New xs ys (shapes s)) (leaf-is under one) (path .new) })
       where
-        one : is-leaf (under b) ≡ true
+        one : is-leaf under ≡ true
         one = sym (end-leaf (path .unfolds)) ∙ grind (arith, ends)
 
-        two : is-leaf (side (not b) t) ≡ true
+        two : is-leaf beyond ≡ true
         two = sym (end-leaf other) ∙ grind (arith, ends)
 
-        none : owning own ≡ false
+        none : owning test ≡ false
         none = grind (arith, ends)
 
-        folds : (c : Bool) → is-leaf (under c) ≡ true → is-leaf (side (not c) t) ≡ true → pruned own t (c ∷ p) ≡ leaf
-        folds false x y = pruned-zero own p t forks ∙ folded-leaf _ (under false) (side true t) x y none
-        folds true x y = pruned-one own p t forks ∙ folded-leaf _ (side false t) (under true) y x none
+        bare : whole ≡ leaf
+        bare = elim (cases-bool b) [ inl up ↦ on-one up ∙ folded-leaf _ beyond under two one none | inr down ↦ on-zero down ∙ folded-leaf _ under beyond one two none ]
 
-    -- else the node branches
-    module _ (zs : List Vertex) (more : Kept ys zs) (row : Bits) (r : Result Edge Refusal) (stays : folding own e beside ≡ false) where
+    -- else the node branches, by a fork that gave r and zs
+    module _ (kept : Kept xs ys) (zs : List Vertex) (more : Kept ys zs) (r : Result Edge Refusal) (stays : folding test e beside ≡ false) where
       abbrev Forks : Edge → Edge → Type 0
       Forks z o = (x y : Shape) → Unfolds ys (led ys z) x → Unfolds ys (led ys o) y → Cases r (Made ys zs (fork x y)) (Refused ys zs (fork x y))
 
-      there : Unfolds ys beside (side (not b) t)
-      there = kept .shapes beside (side (not b) t) other
+      there : Unfolds ys beside beyond
+      there = kept .shapes beside beyond other
 
-      pub up-zero : b ≡ false → row ≡ b ∷ p → Forks e beside → Cases r (Pathed xs zs (pruned own t row)) (Stopped xs zs (pruned own t row))
-      up-zero zero on made = subst (λ s. Cases r (Pathed xs zs s) (Stopped xs zs s)) (sym (ap (pruned own t) on ∙ folds b zero stands)) (cases-weaker r
-          (made (under b) (side (not b) t) (taken (path .unfolds)) (taken there))
-          (λ f m. made-up xs ys _ _ (under b) (left-within _ _) zs f (path .new) more m)
-          (λ why full. refused-up xs ys _ _ (under b) (left-within _ _) zs why (path .new) full))
-        where
-          stands : ((is-leaf (under b) && is-leaf (side (not b) t)) && not (owning own)) ≡ false
-          stands = ap (λ x. (x && is-leaf (side (not b) t)) && not (owning own)) (sym (end-leaf (path .unfolds))) ∙ ap (λ x. (is-end e && x) && not (owning own)) (sym (end-leaf other)) ∙ stays
+      stands : ((is-leaf under && is-leaf beyond) && not (owning test)) ≡ false
+      stands = ap (λ x. (x && is-leaf beyond) && not (owning test)) (sym (end-leaf (path .unfolds))) ∙ ap (λ x. (is-end e && x) && not (owning test)) (sym (end-leaf other)) ∙ stays
 
-          folds : (c : Bool) → c ≡ false → ((is-leaf (under c) && is-leaf (side (not c) t)) && not (owning own)) ≡ false → pruned own t (c ∷ p) ≡ fork (under c) (side (not c) t)
-          folds false z k = pruned-zero own p t forks ∙ folded-fork _ (under false) (side true t) k
-          folds true z k = absurd (true≢false z)
+      pub up-zero : b ≡ false → Forks e beside → Cases r (Pathed xs zs whole) (Stopped xs zs whole)
+      up-zero zero made = subst (λ s. Cases r (Pathed xs zs s) (Stopped xs zs s)) (sym (on-zero zero ∙ folded-fork _ under beyond stands)) (cases-weaker r
+          (made under beyond (taken (path .unfolds)) (taken there))
+          (λ f m. made-up xs ys _ _ under (left-within _ _) zs f (path .new) more m)
+          (λ why full. refused-up xs ys _ _ under (left-within _ _) zs why (path .new) full))
 
-      pub up-one : b ≡ true → row ≡ b ∷ p → Forks beside e → Cases r (Pathed xs zs (pruned own t row)) (Stopped xs zs (pruned own t row))
-      up-one one on made = subst (λ s. Cases r (Pathed xs zs s) (Stopped xs zs s)) (sym (ap (pruned own t) on ∙ folds b one stands)) (cases-weaker r
-          (made (side (not b) t) (under b) (taken there) (taken (path .unfolds)))
-          (λ f m. made-up xs ys _ _ (under b) (right-within _ _) zs f (path .new) more m)
-          (λ why full. refused-up xs ys _ _ (under b) (right-within _ _) zs why (path .new) full))
-        where
-          stands : ((is-leaf (side (not b) t) && is-leaf (under b)) && not (owning own)) ≡ false
-          stands = ap (λ x. (is-leaf (side (not b) t) && x) && not (owning own)) (sym (end-leaf (path .unfolds))) ∙ ap (λ x. (x && is-end e) && not (owning own)) (sym (end-leaf other)) ∙ grind (arith, stays)
-
-          folds : (c : Bool) → c ≡ true → ((is-leaf (side (not c) t) && is-leaf (under c)) && not (owning own)) ≡ false → pruned own t (c ∷ p) ≡ fork (side (not c) t) (under c)
-          folds true z k = pruned-one own p t forks ∙ folded-fork _ (side false t) (under true) k
-          folds false z k = absurd (true≢false (sym z))
+      pub up-one : b ≡ true → Forks beside e → Cases r (Pathed xs zs whole) (Stopped xs zs whole)
+      up-one one made = subst (λ s. Cases r (Pathed xs zs s) (Stopped xs zs s)) (sym (on-one one ∙ folded-fork _ beyond under (grind (arith, stands)))) (cases-weaker r
+          (made beyond under (taken there) (taken (path .unfolds)))
+          (λ f m. made-up xs ys _ _ under (right-within _ _) zs f (path .new) more m)
+          (λ why full. refused-up xs ys _ _ under (right-within _ _) zs why (path .new) full))
 
 -- the whole path
 pub prunes : (xs ys : List Vertex) (start first : Edge) (own : Bits → Bool) (row : Bits) (r : Result Edge Refusal) → Kept xs ys → ∥ Sound ys ∥₁ → length ys ≡ 2048
