@@ -1,0 +1,4 @@
+pub mod Descend
+pub mod Shorter
+pub mod Prune
+pub mod PathLaws
