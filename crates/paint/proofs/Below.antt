@@ -31,9 +31,10 @@ repeats-unless false xs h = h
 
 repeats-join : (xs ys : List Bits) → No-repeats same xs → No-repeats same ys → Apart xs ys → No-repeats same (xs ++ ys)
 repeats-join [] ys h k apart = k
-repeats-join (x ∷ xs) ys (new, h) k apart =
-    (any-join (same x) xs ys ∙ or-from _ _ new (fresh (cases-bool (any (same x) ys))),
-      repeats-join xs ys h k (λ q e. or-parts (same q x) _ (apart q e) .1))
+repeats-join (x ∷ xs) ys (new, h) k apart = (
+  any-join (same x) xs ys ∙ or-from _ _ new (fresh (cases-bool (any (same x) ys))),
+  repeats-join xs ys h k (λ q e. or-parts (same q x) _ (apart q e) .1),
+)
   where
     fresh : (any (same x) ys ≡ true) ⊎ (any (same x) ys ≡ false) → any (same x) ys ≡ false
     fresh (inl e) = absurd (true≢false (sym (or-left (same x x) (any (same x) xs) (same-self x)) ∙ apart x e))

@@ -1,14 +1,12 @@
--- A walk ends at once just where its first edge leads to no vertex in use. Assumes nothing.
-use mathlib.Core.Path.{_≡_, refl, sym, _∙_, ap}
+-- A walk that ends at once begins at the end. Assumes nothing.
+use mathlib.Core.Path.{_≡_, refl}
 use mathlib.Core.List.{List, [], _∷_}
-use mathlib.Core.Bool.{Bool, true, false}
 use Prim.Native.Nat.{ℕ}
 use native.Mathlib.Omega.{arith}
 use Rattle.std.specs.declared.option.Option.{Option}
 use Rattle.std.specs.declared.option.Option.the-variants.{Some, None}
 use Rattle.bits.specs.Rows.{Bits}
 use Rattle.tree.specs.Graph.{walk, more}
-use Rattle.graph.specs.Slots.{at, led}
 use Rattle.graph.specs.View.{way, out}
 use Rattle.graph.specs.declared.edge.Edge.{Edge}
 use Rattle.graph.specs.declared.edge.Edge.the-variants.{End, To}
@@ -22,8 +20,3 @@ pub ends-at-once : (xs : List Vertex) (e : Edge) (q : Bits) → walk (out xs) (w
 ends-at-once xs End q h = refl
 ends-at-once xs (To n) [] h = grind arith
 ends-at-once xs (To n) (b ∷ q) h = absurd (more-apart _ h)
-
--- an edge that is taken for another is taken for the end
-pub led-itself : (xs : List Vertex) (e : Edge) (q : Bits) → (walk (out xs) (way (led xs e)) q ≡ Some 0 → ⊥) → e ≡ led xs e
-led-itself xs End q h = refl
-led-itself xs (To n) q h = grind arith

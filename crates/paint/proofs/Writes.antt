@@ -45,7 +45,7 @@ module _ (xs ys : List Bits) (hop : Told) (a b : Content) where
         number = λ e. absurd (both-ways _ refl e);
         room = λ h. w .room (omega (arith, count-join (missing (a .map)) xs ys));
         none = w .none;
-        elsewhere = λ q e. w .elsewhere q (or-parts _ _ (sym (any-join (same q) xs ys) ∙ e) .0)
+        elsewhere = λ q e. w .elsewhere q (or-parts _ _ (sym (any-join (same q) xs ys) ∙ e) .0);
       }
 
   pub wrote-append : (c : Content) (ok : Bool) → Apart xs ys → Painted xs hop a b true → Painted ys hop b c ok → Painted (xs ++ ys) hop a c ok
@@ -66,5 +66,5 @@ module _ (xs ys : List Bits) (hop : Told) (a b : Content) where
         number = λ e. omega (arith, second .number e);
         room = λ h. second .room (omega arith);
         none = second .none;
-        elsewhere = λ q e. (let parts = or-parts _ _ (sym (any-join (same q) xs ys) ∙ e) in second .elsewhere q (parts .1) ∙ first .elsewhere q (parts .0))
+        elsewhere = λ q e. (let parts = or-parts _ _ (sym (any-join (same q) xs ys) ∙ e) in second .elsewhere q (parts .1) ∙ first .elsewhere q (parts .0));
       }

@@ -1,4 +1,4 @@
-// What an edge of any number is taken for.
+// What an edge is taken for.
 use graph::Edge;
 use graph::Table;
 use net::Family;
