@@ -1,5 +1,3 @@
-use mathlib.Core.Path.{ap}
-use lib.ListN.{take}
 use Rattle.path.proofs.Folding.{child-left, child-right}
 use Rattle.path.proofs.fold.owns.Needs as need
 
