@@ -21,13 +21,12 @@ use Rattle.tree.specs.Tree.{Shape, leaf, fork, shapes}
 use Rattle.tree.specs.Changes.{below, folded, pruned}
 use Rattle.graph.specs.Slots.{led, next, Unfolds, unfolds-end, Sound}
 use Rattle.graph.specs.Calls.{Kept, Made, Refused}
-use Rattle.graph.specs.Grow.{New, Pathed, Stopped, Grown, Overfull}
-use Rattle.graph.specs.View.{Holds}
+use Rattle.graph.specs.Grow.{New, Pathed, Stopped}
 use Rattle.graph.specs.declared.edge.Edge.{Edge}
 use Rattle.graph.specs.declared.edge.Edge.the-variants.{End, To}
 use Rattle.graph.specs.declared.vertex.Vertex.{Vertex}
 use Rattle.graph.proofs.Growing.{side, taken, goes-on, left-within, right-within, new-none, stopped-up, refused-up, made-up, grown-whole, too-many}
-use Rattle.path.specs.Prune.{others, seen-from, owning, is-end, folding, Folds, Prunes}
+use Rattle.path.specs.Prune.{others, seen-from, owning, is-end, folding, Prunes, Prunes-below}
 use Rattle.path.proofs.Descending.{is-leaf, end-leaf, vertex-forks, follows}
 
 -- a fold is a leaf where both sides are and neither has a route of its own, and else a fork
@@ -179,7 +178,7 @@ module _ (xs ys : List Vertex) (node : Edge) (n : ℕ) (is : node ≡ To n) (t :
 
 -- the whole path
 pub prunes : (xs ys : List Vertex) (start first : Edge) (own : Bits → Bool) (row : Bits) (r : Result Edge Refusal) → Kept xs ys → ∥ Sound ys ∥₁ → length ys ≡ 2048
-    → first ≡ led xs start → Folds xs ys first own row r → Prunes xs ys start own row r
-prunes xs ys start first own row r kept sound long is folds t ss h held = cases-weaker r (folds t (rw is h))
+    → first ≡ led xs start → Prunes-below xs ys first own row r → Prunes xs ys start own row r
+prunes xs ys start first own row r kept sound long is path t ss h held = cases-weaker r (path t (rw is h))
     (λ e path. grown-whole xs ys ss (pruned own t row) kept sound long held e path)
     (λ why stop. too-many xs ys ss (pruned own t row) kept sound long held why stop)

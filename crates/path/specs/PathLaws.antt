@@ -21,7 +21,7 @@ use Rattle.path.specs.Shorter.{Next-shorter}
 use Rattle.path.specs.Prune.{others}
 
 pub record Path-laws : Type 0 where
-  -- a spot as deep as the prefix is its node, and any other is a leaf above it, which then has no node
+  -- a spot as deep as the prefix is its node; any other is a leaf above it, and then the prefix has no node
   pub at-node : (xs : List Vertex) (rs : Routes) (p : Bits) (s : Spot) → Spot-of xs (pushed rs) p s → s .depth ≡ length p → (has-node (pushed rs) p ≡ true) × Unfolds xs (s .edge) (shape-at (pushed rs) p)
   pub at-leaf : (xs : List Vertex) (rs : Routes) (p : Bits) (s : Spot) → Spot-of xs (pushed rs) p s → s .depth < length p
       → Leaf rs (take (s .depth) p) × (above (take (s .depth) p) p ≡ true) × (has-node (pushed rs) p ≡ false)

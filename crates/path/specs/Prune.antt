@@ -4,8 +4,9 @@
 --   owning own              a child of the node has a route of its own
 --   is-end e                the edge is the end
 --   folding own z o         both edges are the end, and no child has a route of its own
---   Folds xs ys e own p r   r is e's tree pruned along the row p, or what stopped it: the way there made no other shapes
---   Prunes xs ys e own p r  r is the tree that e leads to, pruned along the row p, and what is held are the shapes held before and its own;
+--   Prunes-below xs ys e own p r
+--                           r leads to e's tree, pruned along the row p, or some shape of it was one too many; no vertex was made but of its shapes
+--   Prunes xs ys e own p r  r leads to the tree that e leads to, pruned along the row p, and what is held are the shapes held before and those of it;
 --                           or these, as one set, are more than the slots
 use mathlib.Core.List.{List, [], _∷_, _++_}
 use mathlib.Core.Bool.{Bool, true, false, not, _&&_, _||_}
@@ -39,8 +40,8 @@ is-end (To n) = false
 abbrev pub folding : (Bits → Bool) → Edge → Edge → Bool
 folding own z o = (is-end z && is-end o) && not (owning own)
 
-abbrev pub Folds : List Vertex → List Vertex → Edge → (Bits → Bool) → Bits → Result Edge Refusal → Type 0
-Folds xs ys node own p r = (t : Shape) → Unfolds xs node t → Cases r (Pathed xs ys (pruned own t p)) (Stopped xs ys (pruned own t p))
+abbrev pub Prunes-below : List Vertex → List Vertex → Edge → (Bits → Bool) → Bits → Result Edge Refusal → Type 0
+Prunes-below xs ys node own p r = (t : Shape) → Unfolds xs node t → Cases r (Pathed xs ys (pruned own t p)) (Stopped xs ys (pruned own t p))
 
 abbrev pub Prunes : List Vertex → List Vertex → Edge → (Bits → Bool) → Bits → Result Edge Refusal → Type 0
 Prunes xs ys start own p r =

@@ -6,7 +6,7 @@ ghost use lib.ListN.{length, take, drop};
 ghost use Rattle.net.specs.Prefix.{row-of};
 ghost use Rattle.store.specs.Content.{Sound};
 ghost use Rattle.graph.specs.Calls.{Kept};
-ghost use Rattle.path.specs.Prune.{others, seen-from, owning, folding, Folds, Prunes};
+ghost use Rattle.path.specs.Prune.{others, seen-from, owning, folding, Prunes, Prunes-below};
 use super::lead::lead;
 use graph::Edge;
 use graph::EdgePartialEq;
@@ -53,8 +53,8 @@ fn prune_below<R: Store>(
     depth: usize,
 ) -> Result<Edge, Refusal>
     ensures kept { λ _. ⌜ Kept (now (table .entry) .slots) (now (table .exit) .slots) ⌝ }
-    ensures folds { λ r. ⌜ (Sound (R·Store .kept (now (routes .entry))) (R·Store .content (now (routes .entry)))
-        → Folds (now (table .entry) .slots) (now (table .exit) .slots) node (seen-from (take depth (row-of (now (prefix .entry)))) (others (R·Store .content (now (routes .entry)) .map) (row-of (now (prefix .entry)))))
+    ensures path { λ r. ⌜ (Sound (R·Store .kept (now (routes .entry))) (R·Store .content (now (routes .entry)))
+        → Prunes-below (now (table .entry) .slots) (now (table .exit) .slots) node (seen-from (take depth (row-of (now (prefix .entry)))) (others (R·Store .content (now (routes .entry)) .map) (row-of (now (prefix .entry)))))
         (drop depth (row-of (now (prefix .entry)))) r) ⌝ }
 {
     if depth >= prefix.len() as usize {

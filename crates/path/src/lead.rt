@@ -6,7 +6,7 @@ use graph::Table;
 use net::Ipv4;
 use net::ipv4::Ipv4Family;
 
-// The edge itself where it leads to a vertex in use, else the end: any walk from there ends at once.
+// The edge itself where it leads to a vertex in use, else the end: only from the end does a walk end before its first bit.
 pub(super) fn lead(table: &Table, edge: Edge) -> Edge
     ensures { λ r. ⌜ r ≡ led (now (table .entry) .slots) edge ⌝ }
 {

@@ -16,7 +16,7 @@ returns-then-depth-len g m c =
     let xs = c .args .table .now .slots in
     record {
       kept = kept-same xs;
-      folds = λ sound t h. here xs (c .args .node) _ (row-of (c .args .prefix .now)) (c .args .depth) t (omega (arith, c .len .ensures, c .if-depth-len .taken)) h;
+      path = λ sound t h. here xs (c .args .node) _ (row-of (c .args .prefix .now)) (c .args .depth) t (omega (arith, c .len .ensures, c .if-depth-len .taken)) h;
     }
 
 pub returns-in-End : need.returns-in-End
@@ -24,7 +24,7 @@ returns-in-End g m c =
     let xs = c .args .table .now .slots in
     record {
       kept = kept-same xs;
-      folds = λ sound t h. above-it xs (c .args .node) _ _ t (c .in-End .is) h;
+      path = λ sound t h. above-it xs (c .args .node) _ _ t (c .in-End .is) h;
     }
 
 pub returns-in-Break-below : need.returns-in-Break-below
@@ -40,8 +40,8 @@ returns-in-Break-below g m c =
     let p = err-from-errBy (c .from-residual .result) (c .from-residual .ensures .1) in
     record {
       kept = under .kept;
-      folds = λ sound t h. rw (p .1, p .2) (up-stopped xs ys (c .args .node) (c .in-rest .field-0) (c .in-rest .is) t h own row d b less (c .bit-bit .ensures) _
-          (under .folds sound (side b t) (follows xs (c .args .node) (c .follow-below .result) t b b (c .follow-below .ensures) refl h)));
+      path = λ sound t h. rw (p .1, p .2) (up-stopped xs ys (c .args .node) (c .in-rest .field-0) (c .in-rest .is) t h own row d b less (c .bit-bit .ensures) _
+          (under .path sound (side b t) (follows xs (c .args .node) (c .follow-below .result) t b b (c .follow-below .ensures) refl h)));
     }
 
 pub returns-then-ends : need.returns-then-ends
@@ -56,8 +56,8 @@ returns-then-ends g m c =
     let under = c .in-Continue-below .ensures tt in
     record {
       kept = under .kept;
-      folds = λ sound t h. up-leaf xs ys (c .args .node) (c .in-rest .field-0) (c .in-rest .is) t h own row d b less (c .bit-bit .ensures) (c .in-Continue-below .below) (c .follow-beside .result)
-          (under .folds sound (side b t) (follows xs (c .args .node) (c .follow-below .result) t b b (c .follow-below .ensures) refl h))
+      path = λ sound t h. up-leaf xs ys (c .args .node) (c .in-rest .field-0) (c .in-rest .is) t h own row d b less (c .bit-bit .ensures) (c .in-Continue-below .below) (c .follow-beside .result)
+          (under .path sound (side b t) (follows xs (c .args .node) (c .follow-below .result) t b b (c .follow-below .ensures) refl h))
           (c .follow-beside .ensures) (sym (c .ends .ensures sound less) ∙ c .if-ends .taken);
     }
 
@@ -74,8 +74,8 @@ returns-then-bit g m c =
     let zs = c .fork .last .self .slots in
     record {
       kept = kept-then xs ys zs (under .kept) (c .fork .ensures .kept);
-      folds = λ sound t h. up-one xs ys (c .args .node) (c .in-rest .field-0) (c .in-rest .is) t h own row d b less (c .bit-bit .ensures) (c .in-Continue-below .below) (c .follow-beside .result)
-          (under .folds sound (side b t) (follows xs (c .args .node) (c .follow-below .result) t b b (c .follow-below .ensures) refl h))
+      path = λ sound t h. up-one xs ys (c .args .node) (c .in-rest .field-0) (c .in-rest .is) t h own row d b less (c .bit-bit .ensures) (c .in-Continue-below .below) (c .follow-beside .result)
+          (under .path sound (side b t) (follows xs (c .args .node) (c .follow-below .result) t b b (c .follow-below .ensures) refl h))
           (c .follow-beside .ensures) (under .kept) zs (c .fork .ensures .kept) (c .fork .result) (sym (c .ends .ensures sound less) ∙ c .if-ends .left) (c .if-bit .taken) (c .fork .ensures .forked);
     }
 
@@ -92,7 +92,7 @@ returns-else-bit g m c =
     let zs = c .fork-else-bit .last .self .slots in
     record {
       kept = kept-then xs ys zs (under .kept) (c .fork-else-bit .ensures .kept);
-      folds = λ sound t h. up-zero xs ys (c .args .node) (c .in-rest .field-0) (c .in-rest .is) t h own row d b less (c .bit-bit .ensures) (c .in-Continue-below .below) (c .follow-beside .result)
-          (under .folds sound (side b t) (follows xs (c .args .node) (c .follow-below .result) t b b (c .follow-below .ensures) refl h))
+      path = λ sound t h. up-zero xs ys (c .args .node) (c .in-rest .field-0) (c .in-rest .is) t h own row d b less (c .bit-bit .ensures) (c .in-Continue-below .below) (c .follow-beside .result)
+          (under .path sound (side b t) (follows xs (c .args .node) (c .follow-below .result) t b b (c .follow-below .ensures) refl h))
           (c .follow-beside .ensures) (under .kept) zs (c .fork-else-bit .ensures .kept) (c .fork-else-bit .result) (sym (c .ends .ensures sound less) ∙ c .if-ends .left) (c .if-bit .left) (c .fork-else-bit .ensures .forked);
     }

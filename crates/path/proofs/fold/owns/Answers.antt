@@ -1,8 +1,3 @@
-use mathlib.Core.Path.{_≡_, refl, sym, ap, subst, _∙_}
-use native.Mathlib.Omega.{arith}
-use lib.ListN.{length, take}
-use Rattle.std.proofs.shelf.Lists.{length-take-le}
-use Rattle.net.specs.Prefix.{row-of}
 use Rattle.path.proofs.Folding.{child-left, child-right}
 use Rattle.path.proofs.fold.owns.Needs as need
 

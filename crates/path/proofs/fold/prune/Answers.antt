@@ -11,5 +11,5 @@ returns g c =
     record {
       kept = path .kept;
       pruned = λ sound. prunes (c .args .table .now .slots) (after .slots) (c .args .start) (c .lead-start .result) (others (g .R·Store .content (c .args .routes .now) .map) row) row (c .prune-below .result)
-          (path .kept) (after .sound) (after .long) (c .lead-start .ensures) (path .folds sound);
+          (path .kept) (after .sound) (after .long) (c .lead-start .ensures) (path .path sound);
     }
