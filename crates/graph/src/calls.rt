@@ -36,7 +36,7 @@ impl Table {
     }
 
     // The edge itself where it leads to a vertex in use, else the end.
-    pub(super) fn lead(&self, edge: Edge) -> Edge
+    pub fn lead(&self, edge: Edge) -> Edge
         ensures { λ r. ⌜ r ≡ led (now (self .entry) .slots) edge ⌝ }
     {
         match edge {

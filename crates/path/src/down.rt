@@ -1,7 +1,6 @@
 // Down the graph by the bits of a prefix.
 ghost use Rattle.net.specs.Prefix.{row-of};
 ghost use Rattle.path.specs.Descend.{Descends};
-use super::lead::lead;
 use graph::Edge;
 use graph::Table;
 use net::Prefix;
@@ -18,7 +17,7 @@ pub fn descend(table: &Table, start: Edge, prefix: &Prefix) -> Spot
     ensures { λ r. ⌜ Descends (now (table .entry) .slots) start (row-of (now (prefix .entry))) r ⌝ }
 {
     let len = prefix.len() as usize;
-    let mut edge = lead(table, start);
+    let mut edge = table.lead(start);
     for depth in 0..len {
         if let Edge::End = edge {
             return Spot { edge, depth };

@@ -7,7 +7,6 @@ ghost use Rattle.net.specs.Prefix.{row-of};
 ghost use Rattle.store.specs.Content.{Sound};
 ghost use Rattle.graph.specs.Calls.{Kept};
 ghost use Rattle.path.specs.Prune.{others, seen-from, owning, folding, Prunes, Prunes-below};
-use super::lead::lead;
 use graph::Edge;
 use graph::EdgePartialEq;
 use graph::Table;
@@ -89,6 +88,6 @@ pub fn prune<R: Store>(
     ensures pruned { λ r. ⌜ (Sound (R·Store .kept (now (routes .entry))) (R·Store .content (now (routes .entry)))
         → Prunes (now (table .entry) .slots) (now (table .exit) .slots) start (others (R·Store .content (now (routes .entry)) .map) (row-of (now (prefix .entry)))) (row-of (now (prefix .entry))) r) ⌝ }
 {
-    let start = lead(table, start);
+    let start = table.lead(start);
     prune_below(table, routes, start, prefix, 0)
 }

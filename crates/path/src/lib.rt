@@ -3,7 +3,6 @@ ghost use Rattle.path.specs.PathLaws.{Path-laws};
 
 mod down;
 mod fold;
-mod lead;
 mod shorter;
 
 pub use down::Spot;
