@@ -1,10 +1,9 @@
 -- The leaves that painting from a node reaches: they lie below it, none is met twice, and they rest on the routes' nodes alone. Assumes nothing.
-use mathlib.Core.Path.{_≡_, refl, sym, _∙_, ap}
+use mathlib.Core.Path.{_≡_, refl, sym, _∙_}
 use mathlib.Core.Logic.{_⊎_, inl, inr}
 use mathlib.Core.List.{List, [], _∷_, _++_}
-use mathlib.Core.Bool.{Bool, true, false, not, _&&_, _||_}
-use native.Mathlib.Omega.{arith}
-use Rattle.std.proofs.shelf.Tests.{cases-bool, or-cases, or-left, or-right, or-parts, or-from, true≢false}
+use mathlib.Core.Bool.{Bool, true, false, not}
+use Rattle.std.proofs.shelf.Tests.{cases-bool, or-cases, or-left, or-parts, or-from, true≢false}
 use Rattle.bits.specs.Lists.{any}
 use Rattle.bits.specs.Rows.{Bits, same, begins}
 use Rattle.bits.proofs.Sets.{No-repeats}

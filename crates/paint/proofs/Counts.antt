@@ -1,15 +1,15 @@
 -- How many of the leaves that painting reaches have no entry, side by side. Assumes nothing.
 use mathlib.Core.Path.{_≡_, _∙_, ap}
 use mathlib.Core.List.{List, [], _∷_, _++_}
-use mathlib.Core.Bool.{Bool, true, false, not, cond}
+use mathlib.Core.Bool.{Bool, true, false, cond}
 use Prim.Native.Nat.{ℕ, _+_, _-_, _^_, _≤_, _<_, min}
 use native.Mathlib.Omega.{arith}
 use lib.ListN.{length, length-append}
 use Rattle.bits.specs.Lists.{count}
 use Rattle.bits.specs.Rows.{Bits}
 use Rattle.bits.proofs.Members.{count-join}
-use Rattle.tree.specs.Tree.{Shape, leaf, fork}
-use Rattle.tree.specs.Changes.{painted, unless}
+use Rattle.tree.specs.Tree.{Shape}
+use Rattle.tree.specs.Changes.{painted}
 use Rattle.store.specs.Content.{Map, Content}
 use Rattle.graph.specs.Slots.{next, led, Unfolds, unfolds-end, unfolds-to}
 use Rattle.graph.specs.declared.edge.Edge.{Edge}

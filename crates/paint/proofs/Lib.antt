@@ -1,3 +1,4 @@
+pub mod Marks
 pub mod Lengths
 pub mod Leads
 pub mod Writes

@@ -1,16 +1,15 @@
 -- What painting from a node comes to, side by side. Assumes nothing.
-use mathlib.Core.Path.{_≡_, refl, sym, _∙_, ap}
+use mathlib.Core.Path.{_≡_, _∙_, ap}
 use mathlib.Core.List.{List, [], _∷_, _++_}
 use mathlib.Core.Bool.{Bool, true, false}
-use Prim.Native.Nat.{ℕ, _+_, _≤_}
+use Prim.Native.Nat.{ℕ, _+_}
 use native.Mathlib.Omega.{arith}
 use lib.ListN.{length, length-append}
 use Rattle.std.specs.Options.{isSome}
-use Rattle.std.specs.declared.option.Option.{Option}
 use Rattle.bits.specs.Rows.{Bits}
-use Rattle.tree.specs.Tree.{Shape, leaf, fork}
-use Rattle.tree.specs.Changes.{painted, unless}
-use Rattle.store.specs.Content.{Told, Map, Content, present}
+use Rattle.tree.specs.Tree.{Shape, fork}
+use Rattle.tree.specs.Changes.{painted}
+use Rattle.store.specs.Content.{Told, Map, Content}
 use Rattle.graph.specs.Slots.{at, side-of, next, led, Unfolds, unfolds-end, unfolds-to}
 use Rattle.graph.specs.declared.edge.Edge.{Edge}
 use Rattle.graph.specs.declared.edge.Edge.the-variants.{End, To}

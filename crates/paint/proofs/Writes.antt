@@ -1,15 +1,15 @@
 -- One write of rows after another. Assumes nothing.
-use mathlib.Core.Path.{_≡_, refl, sym, _∙_, ap}
+use mathlib.Core.Path.{_≡_, refl, sym, _∙_}
 use mathlib.Core.List.{List, [], _∷_, _++_}
-use mathlib.Core.Bool.{Bool, true, false, not, cond, _||_}
-use Prim.Native.Nat.{ℕ, _+_, _≤_}
+use mathlib.Core.Bool.{Bool, true, false, not}
+use Prim.Native.Nat.{_+_, _≤_}
 use native.Mathlib.Omega.{arith}
 use Rattle.std.proofs.shelf.Tests.{cases-bool, or-left, or-right, or-parts, both-ways}
 use Rattle.bits.specs.Lists.{any, count}
 use Rattle.bits.specs.Rows.{Bits, same}
 use Rattle.bits.proofs.Members.{any-join, count-join, same-self}
 use Rattle.store.specs.Content.{Told, Map, Content, present}
-use Rattle.paint.specs.Paint.{has, missing, entries, Painted}
+use Rattle.paint.specs.Paint.{has, missing, Painted}
 
 -- no row is in both
 abbrev pub Apart : List Bits → List Bits → Type 0
