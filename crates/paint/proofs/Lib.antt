@@ -1,6 +1,5 @@
 pub mod Marks
 pub mod Lengths
-pub mod Leads
 pub mod Writes
 pub mod Below
 pub mod Paints

@@ -1,5 +1,4 @@
 // Counting the leaves that painting would give a new entry.
-use crate::edge::lead;
 use graph::Edge;
 use graph::Table;
 use net::Prefix;
@@ -21,7 +20,7 @@ pub fn count_missing<R: Store, L: Store>(
     ensures { λ r. ⌜ (Sound (R·Store .kept (now (routes .entry))) (R·Store .content (now (routes .entry))) → Sound (L·Store .kept (now (leaves .entry))) (L·Store .content (now (leaves .entry))) →
         Counts (R·Store .content (now (routes .entry)) .map) (L·Store .content (now (leaves .entry)) .map) (now (table .entry) .slots) (led (now (table .entry) .slots) edge) (row-of (now (at .entry))) r) ⌝ }
 {
-    let edge = lead(table, edge);
+    let edge = table.lead(edge);
     count_node(routes, leaves, table, at, edge)
 }
 

@@ -1,5 +1,4 @@
 // Painting the leaves below a node.
-use crate::edge::lead;
 use graph::Edge;
 use graph::Table;
 use net::Prefix;
@@ -45,7 +44,7 @@ pub fn paint<R: Store, L: Store>(
         Paints (R·Store .content (now (routes .entry)) .map) (now (table .entry) .slots) (led (now (table .entry) .slots) edge) (row-of (now (at .entry))) hop
         (L·Store .content (now (leaves .entry))) (L·Store .content (now (leaves .exit))) (isOk r)) ⌝ }
 {
-    let edge = lead(table, edge);
+    let edge = table.lead(edge);
     paint_node(routes, leaves, table, at, edge, hop)
 }
 
