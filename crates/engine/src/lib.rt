@@ -1,0 +1,7 @@
+// The forwarding engine: routes come and go, and each address gets the hop of its longest match.
+mod call;
+mod engine;
+
+pub use call::Answer;
+pub use call::Call;
+pub use engine::Engine;
