@@ -67,7 +67,7 @@ painted-all own (fork a b) q none =
     above-child q b v h =
         let (longer, front) = and-parts _ _ h in
         let n = length-append q (b ∷ []) in
-        let k = ltb-true _ _ longer in
+        let k = ltb-true (length (q ++ (b ∷ []))) (length v) longer in
         and-from _ _ (lt-ltb _ _ (omega arith)) (begins-shorter q (b ∷ []) v front)
 
 -- no route stands below a leaf
