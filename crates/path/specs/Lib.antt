@@ -1,0 +1,3 @@
+pub mod Descend
+pub mod Shorter
+pub mod Prune
