@@ -1,4 +1,4 @@
-// Counting the leaves that painting would be new to.
+// Counting the leaves that painting would give a new entry.
 use crate::edge::lead;
 use graph::Edge;
 use graph::Table;
@@ -11,7 +11,13 @@ ghost use Rattle.graph.specs.Slots.{led};
 ghost use Rattle.paint.specs.Paint.{Counts, Counts-side};
 
 // How many of the leaves that painting from `at` reaches have no entry yet. A number over the greatest stays at it.
-pub fn count_missing<R: Store, L: Store>(routes: &R, leaves: &L, table: &Table, at: &Prefix, edge: Edge) -> u64
+pub fn count_missing<R: Store, L: Store>(
+    routes: &R,
+    leaves: &L,
+    table: &Table,
+    at: &Prefix,
+    edge: Edge,
+) -> u64
     ensures { λ r. ⌜ (Sound (R·Store .kept (now (routes .entry))) (R·Store .content (now (routes .entry))) → Sound (L·Store .kept (now (leaves .entry))) (L·Store .content (now (leaves .entry))) →
         Counts (R·Store .content (now (routes .entry)) .map) (L·Store .content (now (leaves .entry)) .map) (now (table .entry) .slots) (led (now (table .entry) .slots) edge) (row-of (now (at .entry))) r) ⌝ }
 {
@@ -20,7 +26,13 @@ pub fn count_missing<R: Store, L: Store>(routes: &R, leaves: &L, table: &Table, 
 }
 
 // The same where the edge leads to a vertex in use or to the end.
-fn count_node<R: Store, L: Store>(routes: &R, leaves: &L, table: &Table, at: &Prefix, edge: Edge) -> u64
+fn count_node<R: Store, L: Store>(
+    routes: &R,
+    leaves: &L,
+    table: &Table,
+    at: &Prefix,
+    edge: Edge,
+) -> u64
     ensures { λ r. ⌜ (Sound (R·Store .kept (now (routes .entry))) (R·Store .content (now (routes .entry))) → Sound (L·Store .kept (now (leaves .entry))) (L·Store .content (now (leaves .entry))) →
         Counts (R·Store .content (now (routes .entry)) .map) (L·Store .content (now (leaves .entry)) .map) (now (table .entry) .slots) edge (row-of (now (at .entry))) r) ⌝ }
 {
@@ -35,7 +47,14 @@ fn count_node<R: Store, L: Store>(routes: &R, leaves: &L, table: &Table, at: &Pr
 }
 
 // The same for the child of `at` on one side, which the edge leads to, unless it has a route of its own.
-fn count_side<R: Store, L: Store>(routes: &R, leaves: &L, table: &Table, at: &Prefix, one: bool, edge: Edge) -> u64
+fn count_side<R: Store, L: Store>(
+    routes: &R,
+    leaves: &L,
+    table: &Table,
+    at: &Prefix,
+    one: bool,
+    edge: Edge,
+) -> u64
     ensures { λ r. ⌜ (Sound (R·Store .kept (now (routes .entry))) (R·Store .content (now (routes .entry))) → Sound (L·Store .kept (now (leaves .entry))) (L·Store .content (now (leaves .entry))) →
         Counts-side (R·Store .content (now (routes .entry)) .map) (L·Store .content (now (leaves .entry)) .map) (now (table .entry) .slots) edge (row-of (now (at .entry))) one r) ⌝ }
 {

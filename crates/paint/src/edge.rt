@@ -1,4 +1,4 @@
-// What an edge of any number is taken for.
+// What an edge is taken for.
 use graph::Edge;
 use graph::Table;
 use net::Family;
@@ -12,8 +12,10 @@ pub(crate) fn lead(table: &Table, edge: Edge) -> Edge
     ensures { λ r. ⌜ r ≡ led (now (table .entry) .slots) edge ⌝ }
 {
     let address = Ipv4::from_halves(0, 0);
-    match table.walk(edge, &address) {
-        Some(0) => Edge::End,
-        _ => edge,
+    if let Some(steps) = table.walk(edge, &address) {
+        if steps == 0 {
+            return Edge::End;
+        }
     }
+    edge
 }

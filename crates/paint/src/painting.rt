@@ -31,24 +31,38 @@ fn mark<L: Store>(leaves: &mut L, at: &Prefix, hop: Option<u16>) -> Result<(), R
 }
 
 // Gives the hop to every leaf below the node `at`, which the edge leads to, that no longer route covers, or takes their entries out.
-pub fn paint<R: Store, L: Store>(routes: &R, leaves: &mut L, table: &Table, at: &Prefix, edge: Edge, hop: Option<u16>) -> Result<(), Refusal>
+pub fn paint<R: Store, L: Store>(
+    routes: &R,
+    leaves: &mut L,
+    table: &Table,
+    at: &Prefix,
+    edge: Edge,
+    hop: Option<u16>,
+) -> Result<(), Refusal>
     ensures limits { λ _. ⌜ L·Store .content (now (leaves .exit)) .limit ≡ L·Store .content (now (leaves .entry)) .limit ⌝ }
     ensures keeps { λ _. ⌜ (Sound (L·Store .kept (now (leaves .entry))) (L·Store .content (now (leaves .entry))) → Sound (L·Store .kept (now (leaves .exit))) (L·Store .content (now (leaves .exit)))) ⌝ }
     ensures paints { λ r. ⌜ (Sound (R·Store .kept (now (routes .entry))) (R·Store .content (now (routes .entry))) → Sound (L·Store .kept (now (leaves .entry))) (L·Store .content (now (leaves .entry))) →
         Paints (R·Store .content (now (routes .entry)) .map) (now (table .entry) .slots) (led (now (table .entry) .slots) edge) (row-of (now (at .entry))) hop
-            (L·Store .content (now (leaves .entry))) (L·Store .content (now (leaves .exit))) (isOk r)) ⌝ }
+        (L·Store .content (now (leaves .entry))) (L·Store .content (now (leaves .exit))) (isOk r)) ⌝ }
 {
     let edge = lead(table, edge);
     paint_node(routes, leaves, table, at, edge, hop)
 }
 
 // The same where the edge leads to a vertex in use or to the end.
-fn paint_node<R: Store, L: Store>(routes: &R, leaves: &mut L, table: &Table, at: &Prefix, edge: Edge, hop: Option<u16>) -> Result<(), Refusal>
+fn paint_node<R: Store, L: Store>(
+    routes: &R,
+    leaves: &mut L,
+    table: &Table,
+    at: &Prefix,
+    edge: Edge,
+    hop: Option<u16>,
+) -> Result<(), Refusal>
     ensures limits { λ _. ⌜ L·Store .content (now (leaves .exit)) .limit ≡ L·Store .content (now (leaves .entry)) .limit ⌝ }
     ensures keeps { λ _. ⌜ (Sound (L·Store .kept (now (leaves .entry))) (L·Store .content (now (leaves .entry))) → Sound (L·Store .kept (now (leaves .exit))) (L·Store .content (now (leaves .exit)))) ⌝ }
     ensures paints { λ r. ⌜ (Sound (R·Store .kept (now (routes .entry))) (R·Store .content (now (routes .entry))) → Sound (L·Store .kept (now (leaves .entry))) (L·Store .content (now (leaves .entry))) →
         Paints (R·Store .content (now (routes .entry)) .map) (now (table .entry) .slots) edge (row-of (now (at .entry))) hop
-            (L·Store .content (now (leaves .entry))) (L·Store .content (now (leaves .exit))) (isOk r)) ⌝ }
+        (L·Store .content (now (leaves .entry))) (L·Store .content (now (leaves .exit))) (isOk r)) ⌝ }
 {
     if let Edge::End = edge {
         return mark(leaves, at, hop);
@@ -60,12 +74,20 @@ fn paint_node<R: Store, L: Store>(routes: &R, leaves: &mut L, table: &Table, at:
 }
 
 // The same for the child of `at` on one side, which the edge leads to, unless it has a route of its own.
-fn paint_side<R: Store, L: Store>(routes: &R, leaves: &mut L, table: &Table, at: &Prefix, one: bool, edge: Edge, hop: Option<u16>) -> Result<(), Refusal>
+fn paint_side<R: Store, L: Store>(
+    routes: &R,
+    leaves: &mut L,
+    table: &Table,
+    at: &Prefix,
+    one: bool,
+    edge: Edge,
+    hop: Option<u16>,
+) -> Result<(), Refusal>
     ensures limits { λ _. ⌜ L·Store .content (now (leaves .exit)) .limit ≡ L·Store .content (now (leaves .entry)) .limit ⌝ }
     ensures keeps { λ _. ⌜ (Sound (L·Store .kept (now (leaves .entry))) (L·Store .content (now (leaves .entry))) → Sound (L·Store .kept (now (leaves .exit))) (L·Store .content (now (leaves .exit)))) ⌝ }
     ensures paints { λ r. ⌜ (Sound (R·Store .kept (now (routes .entry))) (R·Store .content (now (routes .entry))) → Sound (L·Store .kept (now (leaves .entry))) (L·Store .content (now (leaves .entry))) →
         Paints-side (R·Store .content (now (routes .entry)) .map) (now (table .entry) .slots) edge (row-of (now (at .entry))) one hop
-            (L·Store .content (now (leaves .entry))) (L·Store .content (now (leaves .exit))) (isOk r)) ⌝ }
+        (L·Store .content (now (leaves .entry))) (L·Store .content (now (leaves .exit))) (isOk r)) ⌝ }
 {
     let Some(below) = at.child(one) else {
         return Err(Refusal::Length);
