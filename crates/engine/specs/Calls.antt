@@ -6,7 +6,10 @@
 --   counts-answer t       what a count answers
 --   change-answer r       what a change answers
 --   Answers g rs c x      the ledger answers the call c by x
+--   calls-of row ts       the calls of a list of turns, in their order
+--   answers-of ts         their answers
 use mathlib.Core.Path.{_≡_}
+use mathlib.Core.List.{List, map}
 use Prim.Native.Nat.{ℕ}
 use Rattle.std.specs.declared.option.Option.{Option}
 use Rattle.std.specs.declared.option.Option.the-variants.{Some, None}
@@ -20,6 +23,7 @@ use Rattle.store.specs.Content.{Content}
 use Rattle.engine.specs.declared.call.Call.{Call}
 use Rattle.engine.specs.declared.call.Call.the-variants.{Announce, Withdraw, Lookup, Count}
 use Rattle.engine.specs.declared.call.Answer.{Answer}
+use Rattle.engine.specs.declared.run.Turn.{Turn}
 use Rattle.engine.specs.declared.call.Answer.the-variants.{Changed, Hop, NoRoute, Counts, Refused}
 
 abbrev pub given-by : ℕ → Content → Content → l.Given
@@ -51,3 +55,9 @@ change-answer (Err r) = l.refused r
 
 abbrev pub Answers : l.Given → Routes → l.Call → l.Answer → Type 0
 Answers g rs c x = l.turn g rs c .1 ≡ x
+
+abbrev pub calls-of : {F : Type 0} → (F → Bits) → List (Turn F) → List l.Call
+calls-of row ts = map (λ t. call-of row (t .call)) ts
+
+abbrev pub answers-of : {F : Type 0} → List (Turn F) → List l.Answer
+answers-of ts = map (λ t. answer-of (t .answer)) ts

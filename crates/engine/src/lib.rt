@@ -1,6 +1,9 @@
 // The forwarding engine: routes come and go, and each address gets the hop of its longest match.
 mod call;
+mod draw;
 mod engine;
+mod run;
+mod write;
 
 pub use call::Answer;
 pub use call::Call;
