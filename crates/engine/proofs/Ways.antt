@@ -5,7 +5,7 @@ use mathlib.Core.List.{List, [], _∷_, List·Mem}
 use mathlib.Core.Bool.{Bool, true, false, cond, not, _&&_}
 use Prim.Native.Nat.{ℕ, suc, _+_, _-_, _≤_}
 use native.Mathlib.Omega.{arith}
-use lib.Dec.{eqb}
+use lib.Dec.{eqb, ltb}
 use lib.ListN.{length}
 use Rattle.std.specs.Options.{isSome}
 use Rattle.std.specs.declared.option.Option.{Option}
@@ -132,7 +132,7 @@ module _ (g : Given) (rs : Routes) (own own′ : Type 0) (routes leaf-store : Co
         is-matched = ap isSome (had-is ∙ entry-leaf rs q is-leaf) ∙ some-hop rs q
 
         front : begins q p ≡ true
-        front = and-parts _ _ over .1
+        front = and-parts (ltb (length q) (length p)) (begins q p) over .1
 
         enough : isSome had ≡ true → one .held + count (missing (one .map)) (twigs q p) ≤ one .limit
         enough there =
