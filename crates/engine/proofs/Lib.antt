@@ -5,3 +5,4 @@ pub mod Drawing
 pub mod Stocks
 pub mod Spots
 pub mod Ways
+pub mod Settling

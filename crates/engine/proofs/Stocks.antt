@@ -3,7 +3,7 @@ use mathlib.Core.Path.{_≡_, refl, sym, _∙_, ap, fun-ext}
 use mathlib.Core.Logic.{inl, inr}
 use mathlib.Core.List.{List, [], _∷_, mem-cons-self}
 use mathlib.Core.Bool.{Bool, true, false, cond, not, _&&_, _||_}
-use Prim.Native.Nat.{ℕ, _+_, _≤_}
+use Prim.Native.Nat.{ℕ, min, _+_, _-_, _^_, _≤_, _<_}
 use native.Mathlib.Omega.{arith}
 use lib.Dec.{eqb, ltb}
 use lib.ListN.{length}
@@ -13,7 +13,7 @@ use Rattle.std.specs.declared.option.Option.{Option}
 use Rattle.std.specs.declared.option.Option.the-variants.{Some, None}
 use Rattle.std.specs.declared.result.Result.{Result}
 use Rattle.std.specs.declared.result.Result.the-variants.{Ok, Err}
-use Rattle.std.proofs.shelf.Tests.{cases-bool, both-ways, or-left, or-right}
+use Rattle.std.proofs.shelf.Tests.{cases-bool, or-left, or-right, lt-ltb, le-ltb}
 use Rattle.std.proofs.shelf.Ways.{tells}
 use Rattle.bits.specs.Lists.{any, count}
 use Rattle.bits.specs.Rows.{Bits, same, begins}
@@ -22,7 +22,7 @@ use Rattle.bits.proofs.Tests.{same-is}
 use Rattle.bits.proofs.Begins.{begins-same}
 use Rattle.refusal.specs.declared.Refusal.{Refusal}
 use Rattle.store.specs.Content.{Content, Sound, Puts, Wrote, Removes, put-refusal, bad-hop, hop-told, absent, present}
-use Rattle.tree.specs.Tree.{Route, Routes, pushed, leaves, matches, matched, longest, hop-of, has-node}
+use Rattle.tree.specs.Tree.{Route, Routes, above, pushed, leaves, matches, matched, longest, hop-of, has-node}
 use Rattle.tree.specs.Ledger.{Given, stands, struck, entered, greatest-hop}
 use Rattle.tree.specs.LedgerLaws as ledger
 use Rattle.tree.specs.Changes.{reach}
@@ -33,7 +33,7 @@ use Rattle.tree.proofs.Stores.{routes-held, told-at, entered-hop, struck-hop}
 use Rattle.tree.proofs.Entries.{entry-leaf}
 use Rattle.tree.proofs.Matched.{some-hop}
 use Rattle.tree.proofs.Longest.{longest-some}
-use Rattle.tree.proofs.Counts.{enters-node, rehops}
+use Rattle.tree.proofs.Counts.{enters-node, rehops, below-matched, below-unmatched}
 use Rattle.tree.proofs.Hops as hops
 use Rattle.paint.specs.Paint.{has, missing, fair}
 use Rattle.engine.specs.Serves.{Stored}
@@ -156,3 +156,28 @@ module _ (g : Given) (rs : Routes) (own own′ : Type 0) (routes leaf-store : Co
   -- a standing route's leaves all have an entry
   pub standing-room : (p : Bits) → has-node (pushed rs) p ≡ true → stands rs p ≡ true → leaf-store .held + count (missing (leaf-store .map)) (reach rs p) ≤ leaf-store .limit
   standing-room p node s = let a = node-number p 0 node in let b = rehops rs p 0 s in let c = stored .leaves-held in let d = stored .leaves-sound .within in omega arith
+
+  -- whether there is room at a node p, by what was counted
+  module _ (p : Bits) (h : ℕ) (node : has-node (pushed rs) p ≡ true) (added room : ℕ) (counted : added ≡ min (count (missing (leaf-store .map)) (reach rs p)) (2 ^ 64 - 1)) (left : room ≡ leaf-store .limit - leaf-store .held) where
+    pub node-full : room < added → ltb (g .leaf-limit) (length (matched (entered rs p h))) ≡ true
+    node-full less = lt-ltb _ _ (let n = node-number p h node in let k = stored .leaves-limit in let w = stored .leaves-sound .within in omega (arith, counted, left, less))
+
+    pub node-fits : added ≤ room → ltb (g .leaf-limit) (length (matched (entered rs p h))) ≡ false
+    node-fits most = le-ltb _ _ (let n = node-number p h node in let k = stored .leaves-limit in let w = stored .leaves-sound .within in let m = stored .leaves-sound .most in omega (arith, counted, left, most))
+
+  -- and below a leaf q
+  module _ (q p : Bits) (h : ℕ) (is-leaf : Leaf rs q) (over : above q p ≡ true) (added room : ℕ) (counted : added ≡ cond (present (leaf-store .map q)) (length p - length q) 1) (left : room ≡ leaf-store .limit - leaf-store .held) where
+    below-number : leaf-store .held + added ≡ length (matched (entered rs p h))
+    below-number =
+        let is : present (leaf-store .map q) ≡ matches rs q = ap isSome (stored .leaf-hops q ∙ entry-leaf rs q is-leaf) ∙ some-hop rs q in
+        let held = stored .leaves-held in
+        elim (cases-bool (matches rs q)) [
+          | inl m ↦ (let b = below-matched rs q p h is-leaf over m in let c : added ≡ length p - length q = counted ∙ ap (λ b. cond b (length p - length q) 1) (is ∙ m) in omega arith)
+          | inr m ↦ (let b = below-unmatched rs q p h is-leaf over m in let c : added ≡ 1 = counted ∙ ap (λ b. cond b (length p - length q) 1) (is ∙ m) in omega arith)
+        ]
+
+    pub below-full : room < added → ltb (g .leaf-limit) (length (matched (entered rs p h))) ≡ true
+    below-full less = lt-ltb _ _ (let n = below-number in let k = stored .leaves-limit in let w = stored .leaves-sound .within in omega (arith, left, less))
+
+    pub below-fits : added ≤ room → ltb (g .leaf-limit) (length (matched (entered rs p h))) ≡ false
+    below-fits most = le-ltb _ _ (let n = below-number in let k = stored .leaves-limit in let w = stored .leaves-sound .within in omega (arith, left, most))

@@ -5,6 +5,7 @@
 --   Sets-below .. q p start h e f     the route of p, below the leaf q, is entered; the start leads to the new tree
 --   Clears-at .. p edge next e f      the route of p, which stays a node, is struck; next is the hop that is left for it
 --   Clears-below .. q p next e f      the route of p is struck, and q above it is a leaf again
+--   Clears .. p start next e f        either of these; the start leads to the new tree
 use mathlib.Core.Path.{_≡_}
 use mathlib.Core.Bool.{true}
 use Prim.Native.Nat.{ℕ, _≤_}
@@ -44,4 +45,8 @@ module _ {F R L : Type 0} (kept-r : R → Type 0) (content-r : R → Content) (k
 
   abbrev pub Clears-below : Bits → Bits → Option ℕ → Engine F R L → Engine F R L → Type 0
   Clears-below q p next e f = (g : Given) (rs : Routes) → Writable g rs (struck rs p) e → stands rs p ≡ true → Leaf (struck rs p) q → above q p ≡ true
+      → Unfolds (e .table .slots) (e .start) (pushed rs) → next ≡ leaf-hop (struck rs p) p → Stores g (struck rs p) f
+
+  abbrev pub Clears : Bits → Edge → Option ℕ → Engine F R L → Engine F R L → Type 0
+  Clears p start next e f = (g : Given) (rs : Routes) → Writable g rs (struck rs p) e → stands rs p ≡ true → Unfolds (e .table .slots) start (pushed (struck rs p))
       → Unfolds (e .table .slots) (e .start) (pushed rs) → next ≡ leaf-hop (struck rs p) p → Stores g (struck rs p) f

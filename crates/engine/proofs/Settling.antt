@@ -1,0 +1,150 @@
+-- How a change settles, by its checks. Assumes nothing.
+use mathlib.Core.Path.{_≡_, refl, sym, _∙_, ap, subst, fun-ext}
+use mathlib.Core.Logic.{inl, inr}
+use mathlib.Core.List.{List, [], _∷_, _++_}
+use mathlib.Core.Bool.{Bool, true, false, cond, not, _&&_, _||_}
+use Prim.Native.Nat.{ℕ, suc, _+_, _<_, _≤_}
+use native.Mathlib.Omega.{arith}
+use lib.Dec.{ltb, eqb}
+use lib.ListN.{length, take, drop}
+use Rattle.std.specs.Options.{isSome}
+use Rattle.std.specs.declared.option.Option.{Option}
+use Rattle.std.specs.declared.option.Option.the-variants.{Some, None}
+use Rattle.std.specs.declared.result.Result.the-variants.{Ok, Err}
+use Rattle.std.proofs.shelf.Tests.{lt-ltb, le-ltb}
+use Rattle.bits.specs.Lists.{different}
+use Rattle.bits.specs.Rows.{Bits, same, any-one}
+use Rattle.bits.proofs.Members.{same-swap}
+use Rattle.net.specs.Prefix.{refusal-of}
+use Rattle.refusal.specs.declared.Refusal.{Refusal}
+use Rattle.refusal.specs.declared.Refusal.the-variants.{Length, HostBits, Hop, Unknown, RoutesFull, LeavesFull, VerticesFull}
+use Rattle.tree.specs.Tree.{Routes, Shape, alike, shapes, pushed, matched}
+use Rattle.tree.specs.Ledger.{Given, announce, withdraw, Answer, greatest-hop, vertex-slots, stands, struck, entered, vertices, new-shapes, together, checks, decided, announce-checks, withdraw-checks, turn}
+use Rattle.tree.specs.LedgerLaws as ledger
+use Rattle.tree.specs.Changes.{pruned}
+use Rattle.tree.specs.HopLaws.{leaf-hop}
+use Rattle.tree.specs.StoreLaws.{hop-at}
+use Rattle.tree.proofs.Changes as changes
+use Rattle.tree.proofs.Lengths as lengths
+use Rattle.tree.proofs.Paths.{together-is, nothing-new}
+use Rattle.tree.proofs.Prefixes.{stands-struck}
+use Rattle.tree.proofs.Sounds.{turn-sound}
+use Rattle.tree.proofs.Stores.{routes-held}
+use Rattle.store.specs.Content.{Content, Map, present}
+use Rattle.path.specs.Prune.{others}
+use Rattle.path.specs.Shorter.{Next-shorter}
+use Rattle.engine.specs.Changes.{room-checks, fold-checks}
+use Rattle.engine.specs.Serves.{Serves, Serving, Settles, Unchanged, Stored}
+use Rattle.engine.specs.declared.engine.Engine.{Engine}
+
+-- by the refusal, if there is one
+module _ {F R L : Type 0} (g : Given) (kept-r : R → Type 0) (content-r : R → Content) (kept-l : L → Type 0) (content-l : L → Content) (rs ss : Routes) (e f : Engine F R L) (o : Option Refusal) where
+  pub refused-by : (why : Refusal) → o ≡ Some why → Serves g kept-r content-r kept-l content-l rs f → Unchanged content-r content-l e f
+      → Settles g kept-r content-r kept-l content-l (decided o rs ss) e f (Err why)
+  refused-by why is serves same = subst (λ x. Settles g kept-r content-r kept-l content-l (decided x rs ss) e f (Err why)) (sym is) (record { answer = refl; serves = serves; refuses = same })
+
+  pub granted-by : (n : ℕ) → o ≡ None → n ≡ new-shapes rs ss → Serves g kept-r content-r kept-l content-l ss f
+      → Settles g kept-r content-r kept-l content-l (decided o rs ss) e f (Ok n)
+  granted-by n is new serves = subst (λ x. Settles g kept-r content-r kept-l content-l (decided x rs ss) e f (Ok n)) (sym is) (record { answer = ap changed (sym new); serves = serves; refuses = tt })
+    where
+      changed : ℕ → Answer
+      changed = Answer.changed
+
+-- the room for a new route
+three : (x y z : Bool) → Option Refusal
+three x y z = checks ((x, RoutesFull) ∷ (y, LeavesFull) ∷ (z, VerticesFull) ∷ [])
+
+module _ (g : Given) (rs ss : Routes) where
+  pub no-route : eqb (length rs) (g .route-limit) ≡ true → room-checks g rs ss ≡ Some RoutesFull
+  no-route a = rw a
+
+  module _ (a : eqb (length rs) (g .route-limit) ≡ false) where
+    pub no-leaf : ltb (g .leaf-limit) (length (matched ss)) ≡ true → room-checks g rs ss ≡ Some LeavesFull
+    no-leaf b = rw (a, b)
+
+    module _ (b : ltb (g .leaf-limit) (length (matched ss)) ≡ false) where
+      pub no-vertex : vertex-slots < together rs ss → room-checks g rs ss ≡ Some VerticesFull
+      no-vertex many = let c = lt-ltb _ _ many in rw (a, b, c)
+
+      pub all-room : together rs ss ≤ vertex-slots → room-checks g rs ss ≡ None
+      all-room few = let c = le-ltb _ _ few in rw (a, b, c)
+
+pub no-fold : (rs ss : Routes) → vertex-slots < together rs ss → fold-checks rs ss ≡ Some VerticesFull
+no-fold rs ss many = let c = lt-ltb _ _ many in rw c
+
+pub fold-room : (rs ss : Routes) → together rs ss ≤ vertex-slots → fold-checks rs ss ≡ None
+fold-room rs ss few = let c = le-ltb _ _ few in rw c
+
+-- shapes before and after, where the new tree is known
+pub together-by : (rs ss : Routes) (u : Shape) → pushed ss ≡ u → together rs ss ≡ different alike (shapes (pushed rs) ++ shapes u)
+together-by rs ss u e = ap (λ t. different alike (shapes (pushed rs) ++ shapes t)) e
+
+pub new-by : (rs ss : Routes) (made : ℕ) → together rs ss ≡ vertices rs + made → made ≡ new-shapes rs ss
+new-by rs ss made e = let t = together-is rs ss in omega arith
+
+pub still-fits : (g : Given) (rs ss : Routes) → ledger.Sound g rs → pushed ss ≡ pushed rs → together rs ss ≤ vertex-slots
+still-fits g rs ss sound e = let t = together-is rs ss in let n = nothing-new rs ss e in let v = sound .vertices-fit in omega arith
+
+-- the tree without a route, and the hop that is left for it
+pub struck-tree : (rs : Routes) (p : Bits) (m : Map) → ((q : Bits) → m q ≡ hop-at rs q) → pushed (struck rs p) ≡ pruned (others m p) (pushed rs) p
+struck-tree rs p m told = changes.striking rs p ∙ ap (λ f. pruned f (pushed rs) p) (fun-ext own)
+  where
+    own : (q : Bits) → stands (struck rs p) q ≡ others m p q
+    own q =
+        let s = stands-struck rs p q in
+        let h : present (m q) ≡ stands rs q = ap isSome (told q) ∙ routes-held rs q in
+        let w = same-swap q p in
+        grind arith
+
+pub hop-left : (rs : Routes) (p : Bits) (m : Map) → ((q : Bits) → m q ≡ hop-at rs q) → ledger.Once rs → (o : Option ℕ) → Next-shorter m p o → o ≡ leaf-hop (struck rs p) p
+hop-left rs p m told once (Some h) (n, less, here, none) =
+    sym (lengths.next-shorter rs p n h once less (sym (told (take n p)) ∙ here) (λ k more within. absent-stands (none k (omega arith) within)))
+  where
+    absent-stands : {k : ℕ} → m (take k p) ≡ None → stands rs (take k p) ≡ false
+    absent-stands {k} e = sym (routes-held rs (take k p)) ∙ ap isSome (sym (told (take k p)) ∙ e)
+hop-left rs p m told once None none =
+    sym (lengths.none-shorter rs p (λ k within. sym (routes-held rs (take k p)) ∙ ap isSome (sym (told (take k p)) ∙ none k (omega arith) within)))
+
+-- the checks of an announcement, one after the other
+six : (x y z v w u : Bool) → Option Refusal
+six x y z v w u = checks ((x, Length) ∷ (y, HostBits) ∷ (z, Hop) ∷ (v, RoutesFull) ∷ (w, LeavesFull) ∷ (u, VerticesFull) ∷ [])
+
+module _ (g : Given) (rs : Routes) (a : Bits) (n : ℕ) where
+  prefix-cases : (x y : Bool) (why : Refusal) → cond x (Some Length) (cond y (Some HostBits) None) ≡ Some why → (rest : List (Bool × Refusal)) → checks ((x, Length) ∷ (y, HostBits) ∷ rest) ≡ Some why
+  prefix-cases true y why e rest = e
+  prefix-cases false true why e rest = e
+  prefix-cases false false why e rest = absurd (let k : _≡_ {A = ℕ} 0 1 = cc in omega arith)
+
+  prefix-right : (x y : Bool) → cond x (Some Length) (cond y (Some HostBits) None) ≡ None → (rest : List (Bool × Refusal)) → checks ((x, Length) ∷ (y, HostBits) ∷ rest) ≡ checks rest
+  prefix-right true y e rest = absurd (let k : _≡_ {A = ℕ} 0 1 = cc in omega arith)
+  prefix-right false true e rest = absurd (let k : _≡_ {A = ℕ} 0 1 = cc in omega arith)
+  prefix-right false false e rest = refl
+
+  pub announce-prefix : (h : ℕ) (why : Refusal) → refusal-of (g .width) a n ≡ Some why → announce-checks g rs a n h ≡ Some why
+  announce-prefix h why e = prefix-cases (ltb (g .width) n) (any-one (drop n a)) why e _
+
+  pub withdraw-prefix : (why : Refusal) → refusal-of (g .width) a n ≡ Some why → withdraw-checks g rs a n ≡ Some why
+  withdraw-prefix why e = prefix-cases (ltb (g .width) n) (any-one (drop n a)) why e _
+
+  module _ (right : refusal-of (g .width) a n ≡ None) where
+    pub withdraw-unknown : stands rs (take n a) ≡ false → withdraw-checks g rs a n ≡ Some Unknown
+    withdraw-unknown s = prefix-right (ltb (g .width) n) (any-one (drop n a)) right _ ∙ rw s
+
+    pub withdraw-known : stands rs (take n a) ≡ true → withdraw-checks g rs a n ≡ fold-checks rs (struck rs (take n a))
+    withdraw-known s = prefix-right (ltb (g .width) n) (any-one (drop n a)) right _ ∙ rw s
+
+    pub announce-hop : (h : ℕ) → (eqb h 0 || ltb greatest-hop h) ≡ true → announce-checks g rs a n h ≡ Some Hop
+    announce-hop h bad = prefix-right (ltb (g .width) n) (any-one (drop n a)) right _ ∙ rw bad
+
+    pub announce-standing : (h : ℕ) → (eqb h 0 || ltb greatest-hop h) ≡ false → stands rs (take n a) ≡ true → announce-checks g rs a n h ≡ None
+    announce-standing h good s = prefix-right (ltb (g .width) n) (any-one (drop n a)) right _ ∙ rw (good, s)
+
+    pub announce-new : (h : ℕ) → (eqb h 0 || ltb greatest-hop h) ≡ false → stands rs (take n a) ≡ false → announce-checks g rs a n h ≡ room-checks g rs (entered rs (take n a) h)
+    announce-new h good s = prefix-right (ltb (g .width) n) (any-one (drop n a)) right _ ∙ rw (good, s)
+
+  -- what is granted is sound
+  pub announce-sound : (h : ℕ) → ledger.Sound g rs → announce-checks g rs a n h ≡ None → ledger.Sound g (entered rs (take n a) h)
+  announce-sound h sound e = subst (λ o. ledger.Sound g (decided o rs (entered rs (take n a) h) .0)) e (turn-sound g rs sound (announce a n h))
+
+  pub withdraw-sound : ledger.Sound g rs → withdraw-checks g rs a n ≡ None → ledger.Sound g (struck rs (take n a))
+  withdraw-sound sound e = subst (λ o. ledger.Sound g (decided o rs (struck rs (take n a)) .0)) e (turn-sound g rs sound (withdraw a n))
