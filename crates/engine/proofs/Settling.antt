@@ -34,7 +34,12 @@ use Rattle.store.specs.Content.{Content, Map, present}
 use Rattle.path.specs.Prune.{others}
 use Rattle.path.specs.Shorter.{Next-shorter}
 use Rattle.engine.specs.Changes.{room-checks, fold-checks}
-use Rattle.engine.specs.Serves.{Serves, Serving, Settles, Unchanged, Stored}
+use Rattle.graph.specs.Slots.{Unfolds}
+use Rattle.graph.specs.View.{Holds}
+use Rattle.graph.specs.declared.edge.Edge.{Edge}
+use Rattle.engine.specs.Draws.{Moves}
+use Rattle.engine.specs.Serves.{Serves, Settles, Unchanged, Stored}
+use Rattle.engine.specs.Writes.{Stores}
 use Rattle.engine.specs.declared.engine.Engine.{Engine}
 
 -- by the refusal, if there is one
@@ -51,9 +56,6 @@ module _ {F R L : Type 0} (g : Given) (kept-r : R → Type 0) (content-r : R →
       changed = Answer.changed
 
 -- the room for a new route
-three : (x y z : Bool) → Option Refusal
-three x y z = checks ((x, RoutesFull) ∷ (y, LeavesFull) ∷ (z, VerticesFull) ∷ [])
-
 module _ (g : Given) (rs ss : Routes) where
   pub no-route : eqb (length rs) (g .route-limit) ≡ true → room-checks g rs ss ≡ Some RoutesFull
   no-route a = rw a
@@ -98,17 +100,14 @@ struck-tree rs p m told = changes.striking rs p ∙ ap (λ f. pruned f (pushed r
 
 pub hop-left : (rs : Routes) (p : Bits) (m : Map) → ((q : Bits) → m q ≡ hop-at rs q) → ledger.Once rs → (o : Option ℕ) → Next-shorter m p o → o ≡ leaf-hop (struck rs p) p
 hop-left rs p m told once (Some h) (n, less, here, none) =
-    sym (lengths.next-shorter rs p n h once less (sym (told (take n p)) ∙ here) (λ k more within. absent-stands (none k (omega arith) within)))
+    sym (lengths.next-shorter rs p n h once less (sym (told (take n p)) ∙ here) (λ k more within. absent-stands k (none k (omega arith) within)))
   where
-    absent-stands : {k : ℕ} → m (take k p) ≡ None → stands rs (take k p) ≡ false
-    absent-stands {k} e = sym (routes-held rs (take k p)) ∙ ap isSome (sym (told (take k p)) ∙ e)
+    absent-stands : (k : ℕ) → m (take k p) ≡ None → stands rs (take k p) ≡ false
+    absent-stands k e = sym (routes-held rs (take k p)) ∙ ap isSome (sym (told (take k p)) ∙ e)
 hop-left rs p m told once None none =
     sym (lengths.none-shorter rs p (λ k within. sym (routes-held rs (take k p)) ∙ ap isSome (sym (told (take k p)) ∙ none k (omega arith) within)))
 
 -- the checks of an announcement, one after the other
-six : (x y z v w u : Bool) → Option Refusal
-six x y z v w u = checks ((x, Length) ∷ (y, HostBits) ∷ (z, Hop) ∷ (v, RoutesFull) ∷ (w, LeavesFull) ∷ (u, VerticesFull) ∷ [])
-
 module _ (g : Given) (rs : Routes) (a : Bits) (n : ℕ) where
   prefix-cases : (x y : Bool) (why : Refusal) → cond x (Some Length) (cond y (Some HostBits) None) ≡ Some why → (rest : List (Bool × Refusal)) → checks ((x, Length) ∷ (y, HostBits) ∷ rest) ≡ Some why
   prefix-cases true y why e rest = e
@@ -120,27 +119,38 @@ module _ (g : Given) (rs : Routes) (a : Bits) (n : ℕ) where
   prefix-right false true e rest = absurd (let k : _≡_ {A = ℕ} 0 1 = cc in omega arith)
   prefix-right false false e rest = refl
 
+  -- the checks after those of the prefix
+  abbrev announce-rest : ℕ → List (Bool × Refusal)
+  announce-rest h =
+      (eqb h 0 || ltb greatest-hop h, Hop)
+      ∷ (not (stands rs (take n a)) && eqb (length rs) (g .route-limit), RoutesFull)
+      ∷ (not (stands rs (take n a)) && ltb (g .leaf-limit) (length (matched (entered rs (take n a) h))), LeavesFull)
+      ∷ (not (stands rs (take n a)) && ltb vertex-slots (together rs (entered rs (take n a) h)), VerticesFull) ∷ []
+
+  abbrev withdraw-rest : List (Bool × Refusal)
+  withdraw-rest = (not (stands rs (take n a)), Unknown) ∷ (ltb vertex-slots (together rs (struck rs (take n a))), VerticesFull) ∷ []
+
   pub announce-prefix : (h : ℕ) (why : Refusal) → refusal-of (g .width) a n ≡ Some why → announce-checks g rs a n h ≡ Some why
-  announce-prefix h why e = prefix-cases (ltb (g .width) n) (any-one (drop n a)) why e _
+  announce-prefix h why e = prefix-cases (ltb (g .width) n) (any-one (drop n a)) why e (announce-rest h)
 
   pub withdraw-prefix : (why : Refusal) → refusal-of (g .width) a n ≡ Some why → withdraw-checks g rs a n ≡ Some why
-  withdraw-prefix why e = prefix-cases (ltb (g .width) n) (any-one (drop n a)) why e _
+  withdraw-prefix why e = prefix-cases (ltb (g .width) n) (any-one (drop n a)) why e withdraw-rest
 
   module _ (right : refusal-of (g .width) a n ≡ None) where
     pub withdraw-unknown : stands rs (take n a) ≡ false → withdraw-checks g rs a n ≡ Some Unknown
-    withdraw-unknown s = prefix-right (ltb (g .width) n) (any-one (drop n a)) right _ ∙ rw s
+    withdraw-unknown s = prefix-right (ltb (g .width) n) (any-one (drop n a)) right withdraw-rest ∙ rw s
 
     pub withdraw-known : stands rs (take n a) ≡ true → withdraw-checks g rs a n ≡ fold-checks rs (struck rs (take n a))
-    withdraw-known s = prefix-right (ltb (g .width) n) (any-one (drop n a)) right _ ∙ rw s
+    withdraw-known s = prefix-right (ltb (g .width) n) (any-one (drop n a)) right withdraw-rest ∙ rw s
 
     pub announce-hop : (h : ℕ) → (eqb h 0 || ltb greatest-hop h) ≡ true → announce-checks g rs a n h ≡ Some Hop
-    announce-hop h bad = prefix-right (ltb (g .width) n) (any-one (drop n a)) right _ ∙ rw bad
+    announce-hop h bad = prefix-right (ltb (g .width) n) (any-one (drop n a)) right (announce-rest h) ∙ rw bad
 
     pub announce-standing : (h : ℕ) → (eqb h 0 || ltb greatest-hop h) ≡ false → stands rs (take n a) ≡ true → announce-checks g rs a n h ≡ None
-    announce-standing h good s = prefix-right (ltb (g .width) n) (any-one (drop n a)) right _ ∙ rw (good, s)
+    announce-standing h good s = prefix-right (ltb (g .width) n) (any-one (drop n a)) right (announce-rest h) ∙ rw (good, s)
 
     pub announce-new : (h : ℕ) → (eqb h 0 || ltb greatest-hop h) ≡ false → stands rs (take n a) ≡ false → announce-checks g rs a n h ≡ room-checks g rs (entered rs (take n a) h)
-    announce-new h good s = prefix-right (ltb (g .width) n) (any-one (drop n a)) right _ ∙ rw (good, s)
+    announce-new h good s = prefix-right (ltb (g .width) n) (any-one (drop n a)) right (announce-rest h) ∙ rw (good, s)
 
   -- what is granted is sound
   pub announce-sound : (h : ℕ) → ledger.Sound g rs → announce-checks g rs a n h ≡ None → ledger.Sound g (entered rs (take n a) h)
@@ -148,3 +158,43 @@ module _ (g : Given) (rs : Routes) (a : Bits) (n : ℕ) where
 
   pub withdraw-sound : ledger.Sound g rs → withdraw-checks g rs a n ≡ None → ledger.Sound g (struck rs (take n a))
   withdraw-sound sound e = subst (λ o. ledger.Sound g (decided o rs (struck rs (take n a)) .0)) e (turn-sound g rs sound (withdraw a n))
+
+-- an engine after its parts have changed
+module _ {F R L : Type 0} (g : Given) (kept-r : R → Type 0) (content-r : R → Content) (kept-l : L → Type 0) (content-l : L → Content) (e f : Engine F R L) where
+  pub stored-still : (rs : Routes) → f .routes ≡ e .routes → f .leaves ≡ e .leaves → Stores kept-r content-r kept-l content-l g rs e → Stores kept-r content-r kept-l content-l g rs f
+  stored-still rs a b s =
+      subst (λ x. Stored g rs (kept-r x) (kept-l (f .leaves)) (content-r x) (content-l (f .leaves))) (sym a)
+      (subst (λ y. Stored g rs (kept-r (e .routes)) (kept-l y) (content-r (e .routes)) (content-l y)) (sym b) s)
+
+  -- the graph stays, and the stores have the new routes
+  pub serves-still : (rs ss : Routes) → f .table ≡ e .table → f .start ≡ e .start → pushed ss ≡ pushed rs → ledger.Sound g ss
+      → Serves g kept-r content-r kept-l content-l rs e → Stores kept-r content-r kept-l content-l g ss f → Serves g kept-r content-r kept-l content-l ss f
+  serves-still rs ss a b tree sound serves stored = record {
+    ledger = sound;
+    stored = stored;
+    starts = subst (λ t. Unfolds (t .slots) (f .start) (pushed ss)) (sym a) (subst (λ k. Unfolds (e .table .slots) k (pushed ss)) (sym b) (subst (Unfolds (e .table .slots) (e .start)) (sym tree) (serves .starts)));
+    holds = subst (λ t. Holds (t .slots) (shapes (pushed ss))) (sym a) (subst (λ t. Holds (e .table .slots) (shapes t)) (sym tree) (serves .holds));
+  }
+
+  -- the start has moved
+  pub serves-moved : (ss : Routes) (start : Edge) → f .routes ≡ e .routes → f .leaves ≡ e .leaves → Moves (e .table .slots) (f .table .slots) start (f .start) → ledger.Sound g ss
+      → Stores kept-r content-r kept-l content-l g ss e → Unfolds (e .table .slots) start (pushed ss) → Serves g kept-r content-r kept-l content-l ss f
+  serves-moved ss start a b moves sound stored leads = record {
+    ledger = sound;
+    stored = stored-still ss a b stored;
+    starts = subst (λ k. Unfolds (f .table .slots) k (pushed ss)) (sym (moves .moved)) (moves .leads (pushed ss) leads);
+    holds = moves .holds (pushed ss) leads;
+  }
+
+  -- all is as it was
+  pub serves-back : (rs : Routes) → f .routes ≡ e .routes → f .leaves ≡ e .leaves → f .start ≡ e .start → f .table .slots ≡ e .table .slots
+      → Serves g kept-r content-r kept-l content-l rs e → Serves g kept-r content-r kept-l content-l rs f
+  serves-back rs a b c d serves = record {
+    ledger = serves .ledger;
+    stored = stored-still rs a b (serves .stored);
+    starts = subst (λ xs. Unfolds xs (f .start) (pushed rs)) (sym d) (subst (λ k. Unfolds (e .table .slots) k (pushed rs)) (sym c) (serves .starts));
+    holds = subst (λ xs. Holds xs (shapes (pushed rs))) (sym d) (serves .holds);
+  }
+
+  pub unchanged-back : f .routes ≡ e .routes → f .leaves ≡ e .leaves → f .start ≡ e .start → f .table .slots ≡ e .table .slots → Unchanged content-r content-l e f
+  unchanged-back a b c d = record { routes = ap content-r a; leaves = ap content-l b; slots = d; start = c }

@@ -22,10 +22,10 @@ use Rattle.bits.proofs.Tests.{same-is}
 use Rattle.bits.proofs.Begins.{begins-same}
 use Rattle.refusal.specs.declared.Refusal.{Refusal}
 use Rattle.store.specs.Content.{Content, Sound, Puts, Wrote, Removes, put-refusal, bad-hop, hop-told, absent, present}
-use Rattle.tree.specs.Tree.{Route, Routes, above, pushed, leaves, matches, matched, longest, hop-of, has-node}
+use Rattle.tree.specs.Tree.{Route, Routes, above, pushed, leaves, matches, matched, longest, hop-of, has-node, shape-at}
 use Rattle.tree.specs.Ledger.{Given, stands, struck, entered, greatest-hop}
 use Rattle.tree.specs.LedgerLaws as ledger
-use Rattle.tree.specs.Changes.{reach}
+use Rattle.tree.specs.Changes.{painted, reach}
 use Rattle.tree.specs.HopLaws.{Leaf, leaf-hop}
 use Rattle.tree.specs.CountLaws.{unmatched}
 use Rattle.tree.specs.StoreLaws.{hop-at, leaf-entry}
@@ -156,6 +156,9 @@ module _ (g : Given) (rs : Routes) (own own′ : Type 0) (routes leaf-store : Co
   -- a standing route's leaves all have an entry
   pub standing-room : (p : Bits) → has-node (pushed rs) p ≡ true → stands rs p ≡ true → leaf-store .held + count (missing (leaf-store .map)) (reach rs p) ≤ leaf-store .limit
   standing-room p node s = let a = node-number p 0 node in let b = rehops rs p 0 s in let c = stored .leaves-held in let d = stored .leaves-sound .within in omega arith
+
+  pub counted-reach : (p : Bits) (n : ℕ) → n ≡ min (count (missing (leaf-store .map)) (painted (has (routes .map)) (shape-at (pushed rs) p) p)) (2 ^ 64 - 1) → n ≡ min (count (missing (leaf-store .map)) (reach rs p)) (2 ^ 64 - 1)
+  counted-reach p n e = e ∙ ap (λ f. min (count (missing (leaf-store .map)) (painted f (shape-at (pushed rs) p) p)) (2 ^ 64 - 1)) has-routes
 
   -- whether there is room at a node p, by what was counted
   module _ (p : Bits) (h : ℕ) (node : has-node (pushed rs) p ≡ true) (added room : ℕ) (counted : added ≡ min (count (missing (leaf-store .map)) (reach rs p)) (2 ^ 64 - 1)) (left : room ≡ leaf-store .limit - leaf-store .held) where
