@@ -10,6 +10,7 @@ use lib.ListN.{length, take, drop}
 use Rattle.std.specs.Options.{isSome}
 use Rattle.std.specs.declared.option.Option.{Option}
 use Rattle.std.specs.declared.option.Option.the-variants.{Some, None}
+use Rattle.std.specs.declared.result.Result.{Result}
 use Rattle.std.specs.declared.result.Result.the-variants.{Ok, Err}
 use Rattle.std.proofs.shelf.Tests.{lt-ltb, le-ltb}
 use Rattle.bits.specs.Lists.{different}
@@ -198,3 +199,50 @@ module _ {F R L : Type 0} (g : Given) (kept-r : R → Type 0) (content-r : R →
 
   pub unchanged-back : f .routes ≡ e .routes → f .leaves ≡ e .leaves → f .start ≡ e .start → f .table .slots ≡ e .table .slots → Unchanged content-r content-l e f
   unchanged-back a b c d = record { routes = ap content-r a; leaves = ap content-l b; slots = d; start = c }
+
+-- from the prefix p that was made to the call's own words
+module _ (g : Given) (rs : Routes) (a : Bits) (n : ℕ) (p : Bits) (row : p ≡ take n a) (right : refusal-of (g .width) a n ≡ None) where
+  standing-row : (b : Bool) → stands rs p ≡ b → stands rs (take n a) ≡ b
+  standing-row b s = ap (stands rs) (sym row) ∙ s
+
+  pub enter-sound : (h : ℕ) → (eqb h 0 || ltb greatest-hop h) ≡ false → stands rs p ≡ false → ledger.Sound g rs → room-checks g rs (entered rs p h) ≡ None → ledger.Sound g (entered rs p h)
+  enter-sound h good new sound none =
+      subst (λ q. ledger.Sound g (entered rs q h)) (sym row)
+      (announce-sound g rs a n h sound (announce-new g rs a n right h good (standing-row false new) ∙ subst (λ q. room-checks g rs (entered rs q h) ≡ None) row none))
+
+  pub rehop-sound : (h : ℕ) → (eqb h 0 || ltb greatest-hop h) ≡ false → stands rs p ≡ true → ledger.Sound g rs → ledger.Sound g (entered rs p h)
+  rehop-sound h good s sound = subst (λ q. ledger.Sound g (entered rs q h)) (sym row) (announce-sound g rs a n h sound (announce-standing g rs a n right h good (standing-row true s)))
+
+  pub strike-sound : stands rs p ≡ true → ledger.Sound g rs → fold-checks rs (struck rs p) ≡ None → ledger.Sound g (struck rs p)
+  strike-sound s sound none =
+      subst (λ q. ledger.Sound g (struck rs q)) (sym row)
+      (withdraw-sound g rs a n sound (withdraw-known g rs a n right (standing-row true s) ∙ subst (λ q. fold-checks rs (struck rs q) ≡ None) row none))
+
+  module _ {F R L : Type 0} (kept-r : R → Type 0) (content-r : R → Content) (kept-l : L → Type 0) (content-l : L → Content) (e f : Engine F R L) (r : Result ℕ Refusal) where
+    pub enters-turn : (h : ℕ) → (eqb h 0 || ltb greatest-hop h) ≡ false → stands rs p ≡ false
+        → Settles g kept-r content-r kept-l content-l (decided (room-checks g rs (entered rs p h)) rs (entered rs p h)) e f r
+        → Settles g kept-r content-r kept-l content-l (turn g rs (announce a n h)) e f r
+    enters-turn h good new settles =
+        subst (λ o. Settles g kept-r content-r kept-l content-l (decided o rs (entered rs (take n a) h)) e f r) (sym (announce-new g rs a n right h good (standing-row false new)))
+        (subst (λ q. Settles g kept-r content-r kept-l content-l (decided (room-checks g rs (entered rs q h)) rs (entered rs q h)) e f r) row settles)
+
+    pub rehops-turn : (h : ℕ) → (eqb h 0 || ltb greatest-hop h) ≡ false → stands rs p ≡ true
+        → Settles g kept-r content-r kept-l content-l (decided None rs (entered rs p h)) e f r
+        → Settles g kept-r content-r kept-l content-l (turn g rs (announce a n h)) e f r
+    rehops-turn h good s settles =
+        subst (λ o. Settles g kept-r content-r kept-l content-l (decided o rs (entered rs (take n a) h)) e f r) (sym (announce-standing g rs a n right h good (standing-row true s)))
+        (subst (λ q. Settles g kept-r content-r kept-l content-l (decided None rs (entered rs q h)) e f r) row settles)
+
+    pub strikes-turn : stands rs p ≡ true
+        → Settles g kept-r content-r kept-l content-l (decided (fold-checks rs (struck rs p)) rs (struck rs p)) e f r
+        → Settles g kept-r content-r kept-l content-l (turn g rs (withdraw a n)) e f r
+    strikes-turn s settles =
+        subst (λ o. Settles g kept-r content-r kept-l content-l (decided o rs (struck rs (take n a))) e f r) (sym (withdraw-known g rs a n right (standing-row true s)))
+        (subst (λ q. Settles g kept-r content-r kept-l content-l (decided (fold-checks rs (struck rs q)) rs (struck rs q)) e f r) row settles)
+
+  pub unknown-by : stands rs p ≡ false → withdraw-checks g rs a n ≡ Some Unknown
+  unknown-by s = withdraw-unknown g rs a n right (standing-row false s)
+
+-- whether a route stands, by what its store told
+pub told-stands : (g : Given) (rs : Routes) (own own′ : Type 0) (routes leaf-store : Content) → Stored g rs own own′ routes leaf-store → (p : Bits) (o : Option ℕ) (b : Bool) → o ≡ routes .map p → isSome o ≡ b → stands rs p ≡ b
+told-stands g rs own own′ routes leaf-store stored p o b told is = sym (routes-held rs p) ∙ ap isSome (sym (stored .route-hops p) ∙ sym told) ∙ is

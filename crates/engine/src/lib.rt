@@ -10,3 +10,5 @@ mod write;
 pub use call::Answer;
 pub use call::Call;
 pub use engine::Engine;
+pub use run::Turn;
+pub use run::replay;

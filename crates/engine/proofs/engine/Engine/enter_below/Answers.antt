@@ -3,7 +3,8 @@ use Rattle.std.proofs.shelf.Results.{err-from-errBy}
 use Rattle.net.specs.Prefix.{row-of}
 use Rattle.refusal.specs.declared.Refusal.the-variants.{LeavesFull, VerticesFull}
 use Rattle.tree.specs.Tree.{pushed, grown}
-use Rattle.tree.specs.Ledger.{entered}
+use Rattle.tree.specs.Ledger.{entered, together, vertex-slots}
+use Prim.Native.Nat.{_<_}
 use Rattle.tree.proofs.Changes.{entering}
 use Rattle.graph.specs.Slots.{Unfolds}
 use Rattle.engine.specs.Changes.{room-checks}
@@ -36,7 +37,7 @@ returns-in-Break-drawn g c = λ given rs ready room is-leaf over.
     let full = grow .grows (pushed rs) (ready .serves .starts) (ready .serves .holds) in
     let free = below-fits given rs (g .R·Store .kept (e .routes)) (g .L·Store .kept (e .leaves)) (g .R·Store .content (e .routes)) (g .L·Store .content (e .leaves)) s q p h is-leaf over
       (c .added-below-added .result) (c .room .result) (c .added-below-added .ensures (s .leaves-sound)) (c .room .ensures (s .leaves-sound)) (c .if-added-room .left) in
-    let many = rw (together-by rs ss (grown p (pushed rs)) (entering rs p h)) (full .many) in
+    let many : vertex-slots < together rs ss = rw (together-by rs ss (grown p (pushed rs)) (entering rs p h)) (full .many) in
     let out = err-from-errBy (c .from-residual .result) (c .from-residual .ensures .1) in
     rw (out .1, out .2, full .why-full)
     (refused-by given (g .R·Store .kept) (g .R·Store .content) (g .L·Store .kept) (g .L·Store .content) rs ss e f (room-checks given rs ss) VerticesFull (no-vertex given rs ss room free many)

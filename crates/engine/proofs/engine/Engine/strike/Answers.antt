@@ -4,7 +4,8 @@ use Rattle.net.specs.Prefix.{row-of}
 use Rattle.refusal.specs.declared.Refusal.the-variants.{VerticesFull}
 use Rattle.tree.specs.Tree.{pushed}
 use Rattle.tree.specs.Changes.{pruned}
-use Rattle.tree.specs.Ledger.{struck}
+use Rattle.tree.specs.Ledger.{struck, together, vertex-slots}
+use Prim.Native.Nat.{_<_}
 use Rattle.graph.specs.Slots.{Unfolds}
 use Rattle.path.specs.Prune.{others}
 use Rattle.engine.specs.Changes.{fold-checks}
@@ -21,7 +22,7 @@ returns-in-Break-drawn g c = λ given rs ready stands.
     let m = g .R·Store .content (e .routes) .map in
     let fold = c .in-Break-drawn .ensures tt in
     let full = fold .folds (s .routes-sound) (pushed rs) (ready .serves .starts) (ready .serves .holds) in
-    let many = rw (together-by rs ss (pruned (others m p) (pushed rs) p) (struck-tree rs p m (s .route-hops))) (full .many) in
+    let many : vertex-slots < together rs ss = rw (together-by rs ss (pruned (others m p) (pushed rs) p) (struck-tree rs p m (s .route-hops))) (full .many) in
     let out = err-from-errBy (c .from-residual .result) (c .from-residual .ensures .1) in
     rw (out .1, out .2, full .why-full)
     (refused-by given (g .R·Store .kept) (g .R·Store .content) (g .L·Store .kept) (g .L·Store .content) rs ss e f (fold-checks rs ss) VerticesFull (no-fold rs ss many)
