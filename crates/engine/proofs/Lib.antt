@@ -6,3 +6,4 @@ pub mod Stocks
 pub mod Spots
 pub mod Ways
 pub mod Settling
+pub mod Running
