@@ -1,15 +1,13 @@
 // Drives a flat row, a layer over a row and a pile of two layers with one long pseudo-random list of calls, each beside a plain map
 // of the standard library, and counts the calls by kind and outcome. An answer that differs from the map's is counted as wrong.
-mod generator;
-
 use chooser::Fnv;
 use chooser::Fold;
 use chooser::fnv::FnvChooser;
 use chooser::fold::FoldChooser;
-use generator::Generator;
 use layer::Layer;
 use layer::layer::calls::LayerStore;
 use net::Prefix;
+use random::Generator;
 use refusal::Refusal;
 use std::alloc::AllocError;
 use std::alloc::Global;

@@ -1,0 +1,5 @@
+pub mod Calls
+pub mod Serves
+pub mod Draws
+pub mod Writes
+pub mod Changes
