@@ -45,11 +45,17 @@ fn ends<R: Store>(routes: &R, prefix: &Prefix, depth: usize, below: Edge, beside
 }
 
 // From a node of the prefix's path, `depth` bits down.
-fn prune_below<R: Store>(table: &mut Table, routes: &R, node: Edge, prefix: &Prefix, depth: usize) -> Result<Edge, Refusal>
+fn prune_below<R: Store>(
+    table: &mut Table,
+    routes: &R,
+    node: Edge,
+    prefix: &Prefix,
+    depth: usize,
+) -> Result<Edge, Refusal>
     ensures kept { λ _. ⌜ Kept (now (table .entry) .slots) (now (table .exit) .slots) ⌝ }
     ensures folds { λ r. ⌜ (Sound (R·Store .kept (now (routes .entry))) (R·Store .content (now (routes .entry)))
         → Folds (now (table .entry) .slots) (now (table .exit) .slots) node (seen-from (take depth (row-of (now (prefix .entry)))) (others (R·Store .content (now (routes .entry)) .map) (row-of (now (prefix .entry)))))
-            (drop depth (row-of (now (prefix .entry)))) r) ⌝ }
+        (drop depth (row-of (now (prefix .entry)))) r) ⌝ }
 {
     if depth >= prefix.len() as usize {
         return Ok(node);
@@ -64,12 +70,21 @@ fn prune_below<R: Store>(table: &mut Table, routes: &R, node: Edge, prefix: &Pre
     if ends(routes, prefix, depth, below, beside) {
         return Ok(Edge::End);
     }
-    if bit { table.fork(beside, below) } else { table.fork(below, beside) }
+    if bit {
+        table.fork(beside, below)
+    } else {
+        table.fork(below, beside)
+    }
 }
 
 // The edge to the start's tree, in which a node above the prefix branches only where a child of its branches,
 // or has a route in the store that is not the prefix's own.
-pub fn prune<R: Store>(table: &mut Table, routes: &R, start: Edge, prefix: &Prefix) -> Result<Edge, Refusal>
+pub fn prune<R: Store>(
+    table: &mut Table,
+    routes: &R,
+    start: Edge,
+    prefix: &Prefix,
+) -> Result<Edge, Refusal>
     ensures kept { λ _. ⌜ Kept (now (table .entry) .slots) (now (table .exit) .slots) ⌝ }
     ensures pruned { λ r. ⌜ (Sound (R·Store .kept (now (routes .entry))) (R·Store .content (now (routes .entry)))
         → Prunes (now (table .entry) .slots) (now (table .exit) .slots) start (others (R·Store .content (now (routes .entry)) .map) (row-of (now (prefix .entry)))) (row-of (now (prefix .entry))) r) ⌝ }
