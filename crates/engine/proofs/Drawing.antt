@@ -30,10 +30,10 @@ module _ (xs ys : List Vertex) (start : Edge) (t u : Shape) (sound : ∥ Sound x
     old = kept .shapes start t old;
     new = grown .unfolds;
     number =
-      (let n = number xs (shapes t) sound held in
-      let k = grown .number in
-      let more = different-append alike-equality (shapes t) (shapes u) in
-      omega arith);
+        (let n = number xs (shapes t) sound held in
+        let k = grown .number in
+        let more = different-append alike-equality (shapes t) (shapes u) in
+        omega arith);
     room = grown .room;
   }
 

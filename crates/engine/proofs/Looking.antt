@@ -25,7 +25,6 @@ use Rattle.graph.proofs.View.{reads-of-unfolds}
 use Rattle.graph.proofs.Unfold.{led-unfolds}
 
 module _ (rs : Routes) (slots : List Vertex) (start : Edge) (a : Bits) (short : At-most (length a) rs) (starts : Unfolds slots start (pushed rs)) where
-
   -- the walk's end is the address's leaf, whose entry is the address's longest match
   pub at-depth : (d : ℕ) → Some d ≡ walk (out slots) (way (led slots start)) a → leaf-entry rs (take d a) ≡ hop-of (longest rs a)
   at-depth d h =

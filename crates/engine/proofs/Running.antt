@@ -41,8 +41,8 @@ module _ {F R L : Type 0} (g : l.Given) (kept-r : R → Type 0) (content-r : R �
       → Ran g kept-r content-r kept-l content-l (calls ++ (c ∷ [])) (given ++ (x ∷ [])) f
   ran-steps calls given c x e f ran answer serves = record {
     law =
-      subst (λ y. Law g (calls ++ (c ∷ [])) (given ++ (y ∷ [])) (graph-of (f .table .slots) (f .start)) (content-r (f .routes) .map) (content-l (f .leaves) .map)) answer
-      (law-steps g calls given _ _ _ c (graph-of (f .table .slots) (f .start)) (content-r (f .routes) .map) (content-l (f .leaves) .map) (ran .law) (state-of _ f serves));
+        subst (λ y. Law g (calls ++ (c ∷ [])) (given ++ (y ∷ [])) (graph-of (f .table .slots) (f .start)) (content-r (f .routes) .map) (content-l (f .leaves) .map)) answer
+        (law-steps g calls given _ _ _ c (graph-of (f .table .slots) (f .start)) (content-r (f .routes) .map) (content-l (f .leaves) .map) (ran .law) (state-of _ f serves));
     serves = subst (λ rs. Serves g kept-r content-r kept-l content-l rs f) (sym (after-join g [] calls (c ∷ []))) serves;
   }
 

@@ -32,6 +32,7 @@ use Rattle.tree.proofs.Prefixes.{stands-struck}
 use Rattle.tree.proofs.Sounds.{turn-sound}
 use Rattle.tree.proofs.Stores.{routes-held}
 use Rattle.store.specs.Content.{Content, Map, present}
+use Rattle.path.proofs.Laws as path
 use Rattle.path.specs.Prune.{others}
 use Rattle.path.specs.Shorter.{Next-shorter}
 use Rattle.engine.specs.Changes.{room-checks, fold-checks}
@@ -90,23 +91,10 @@ still-fits g rs ss sound e = let t = together-is rs ss in let n = nothing-new rs
 
 -- the tree without a route, and the hop that is left for it
 pub struck-tree : (rs : Routes) (p : Bits) (m : Map) → ((q : Bits) → m q ≡ hop-at rs q) → pushed (struck rs p) ≡ pruned (others m p) (pushed rs) p
-struck-tree rs p m told = changes.striking rs p ∙ ap (λ f. pruned f (pushed rs) p) (fun-ext own)
-  where
-    own : (q : Bits) → stands (struck rs p) q ≡ others m p q
-    own q =
-        let s = stands-struck rs p q in
-        let h : present (m q) ≡ stands rs q = ap isSome (told q) ∙ routes-held rs q in
-        let w = same-swap q p in
-        grind arith
+struck-tree rs p m told = sym (path.left-tree rs m p told)
 
 pub hop-left : (rs : Routes) (p : Bits) (m : Map) → ((q : Bits) → m q ≡ hop-at rs q) → ledger.Once rs → (o : Option ℕ) → Next-shorter m p o → o ≡ leaf-hop (struck rs p) p
-hop-left rs p m told once (Some h) (n, less, here, none) =
-    sym (lengths.next-shorter rs p n h once less (sym (told (take n p)) ∙ here) (λ k more within. absent-stands k (none k (omega arith) within)))
-  where
-    absent-stands : (k : ℕ) → m (take k p) ≡ None → stands rs (take k p) ≡ false
-    absent-stands k e = sym (routes-held rs (take k p)) ∙ ap isSome (sym (told (take k p)) ∙ e)
-hop-left rs p m told once None none =
-    sym (lengths.none-shorter rs p (λ k within. sym (routes-held rs (take k p)) ∙ ap isSome (sym (told (take k p)) ∙ none k (omega arith) within)))
+hop-left rs p m told once o next = sym (path.left-hop rs m p told o once next)
 
 -- the checks of an announcement, one after the other
 module _ (g : Given) (rs : Routes) (a : Bits) (n : ℕ) where

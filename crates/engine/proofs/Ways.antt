@@ -95,7 +95,7 @@ module _ (g : Given) (rs : Routes) (own own′ : Type 0) (routes leaf-store : Co
       stored-by g (struck rs p) own-r own-l routes′ leaves′ after
       sr (remove-told g rs own own′ routes leaf-store stored p routes′ (removes .taken)) (lr ∙ stored .routes-limit)
       sl (λ u. paint .rows done u ∙ ap (λ o. cond (any (same u) (reach rs p)) o (leaf-store .map u)) is ∙ ap (cond (any (same u) (reach rs p)) (leaf-hop (struck rs p) p)) (stored .leaf-hops u)
-        ∙ sym (repainted rs (struck rs p) p (leaf-hop (struck rs p) p) (hops.strikes-node rs p s node′) u)) (ll ∙ stored .leaves-limit)
+      ∙ sym (repainted rs (struck rs p) p (leaf-hop (struck rs p) p) (hops.strikes-node rs p s node′) u)) (ll ∙ stored .leaves-limit)
 
   module _ (q : Bits) (over : above q p ≡ true) where
     -- the leaf q gives way: its entry is taken out, the leaves below it get what it had, then p gets its hop

@@ -58,6 +58,10 @@ impl<F: Family, R: Store, L: Store> Engine<F, R, L> {
         ensures { λ r. ⌜ ((g : Given) (rs : Routes) → Serves g (R·Store .kept) (R·Store .content) (L·Store .kept) (L·Store .content) rs (now (self .entry)) →
             Answers g rs counting (counts-answer r)) ⌝ }
     {
-        (self.routes.held(), self.leaves.held(), self.table.count() as u64)
+        (
+            self.routes.held(),
+            self.leaves.held(),
+            self.table.count() as u64,
+        )
     }
 }

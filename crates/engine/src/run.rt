@@ -47,7 +47,11 @@ impl<F: Family + Copy, R: Store, L: Store> Engine<F, R, L> {
 }
 
 // Sets an engine up over two stores, whatever they hold, lets it answer all calls, one after the other, and hands it back.
-pub fn replay<F: Family + Copy, R: Store, L: Store>(routes: R, leaves: L, turns: &mut [Turn<F>]) -> Engine<F, R, L>
+pub fn replay<F: Family + Copy, R: Store, L: Store>(
+    routes: R,
+    leaves: L,
+    turns: &mut [Turn<F>],
+) -> Engine<F, R, L>
     ensures calls { λ _. ⌜ calls-of (F·Family .row) (now (turns .exit)) ≡ calls-of (F·Family .row) (now (turns .entry)) ⌝ }
     ensures ran { λ r. ⌜ Ran (given-by (F·Family .wide) (R·Store .content routes) (L·Store .content leaves)) (R·Store .kept) (R·Store .content) (L·Store .kept) (L·Store .content)
         (calls-of (F·Family .row) (now (turns .entry))) (answers-of (now (turns .exit))) r ⌝ }

@@ -17,7 +17,14 @@ impl<F: Family, R: Store, L: Store> Engine<F, R, L> {
         ensures start { λ _. ⌜ now (self .exit) .start ≡ now (self .entry) .start ⌝ }
         ensures sets { λ _. ⌜ Sets-at (R·Store .kept) (R·Store .content) (L·Store .kept) (L·Store .content) (row-of (now (at .entry))) edge hop (now (self .entry)) (now (self .exit)) ⌝ }
     {
-        let _ = paint(&self.routes, &mut self.leaves, &self.table, at, edge, Some(hop));
+        let _ = paint(
+            &self.routes,
+            &mut self.leaves,
+            &self.table,
+            at,
+            edge,
+            Some(hop),
+        );
         let _ = self.routes.put(at, u64::from(hop));
     }
 
@@ -29,7 +36,14 @@ impl<F: Family, R: Store, L: Store> Engine<F, R, L> {
     {
         let had = self.leaves.remove(leaf);
         let spot = descend(&self.table, start, leaf);
-        let _ = paint(&self.routes, &mut self.leaves, &self.table, leaf, spot.edge, had);
+        let _ = paint(
+            &self.routes,
+            &mut self.leaves,
+            &self.table,
+            leaf,
+            spot.edge,
+            had,
+        );
         let _ = self.leaves.put(at, u64::from(hop));
         let _ = self.routes.put(at, u64::from(hop));
     }
@@ -52,7 +66,21 @@ impl<F: Family, R: Store, L: Store> Engine<F, R, L> {
     {
         self.routes.remove(at);
         let spot = descend(&self.table, self.start, leaf);
-        let _ = paint(&self.routes, &mut self.leaves, &self.table, leaf, spot.edge, None);
-        let _ = paint(&self.routes, &mut self.leaves, &self.table, leaf, Edge::End, next);
+        let _ = paint(
+            &self.routes,
+            &mut self.leaves,
+            &self.table,
+            leaf,
+            spot.edge,
+            None,
+        );
+        let _ = paint(
+            &self.routes,
+            &mut self.leaves,
+            &self.table,
+            leaf,
+            Edge::End,
+            next,
+        );
     }
 }

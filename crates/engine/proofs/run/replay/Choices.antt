@@ -11,4 +11,4 @@ abbrev pub Inv-loop-i : given.InvT-loop-i
 Inv-loop-i g l =
     (calls-of (g .F·Family .row) (l .turns) ≡ calls-of (g .F·Family .row) (l .entry .turns))
     × ((known : Given) → known .width ≡ g .F·Family .wide → Ran known (g .R·Store .kept) (g .R·Store .content) (g .L·Store .kept) (g .L·Store .content) [] [] (l .entry .engine)
-      → Ran known (g .R·Store .kept) (g .R·Store .content) (g .L·Store .kept) (g .L·Store .content) (take (l .i) (calls-of (g .F·Family .row) (l .entry .turns))) (take (l .i) (answers-of (l .turns))) (l .engine))
+    → Ran known (g .R·Store .kept) (g .R·Store .content) (g .L·Store .kept) (g .L·Store .content) (take (l .i) (calls-of (g .F·Family .row) (l .entry .turns))) (take (l .i) (answers-of (l .turns))) (l .engine))

@@ -63,7 +63,7 @@ returns-then-is-none g c = λ given rs wide serves.
     let good = good-hop h (c .if-hop-eq0 .left) (c .if-hop-gt-GREATEST .left) in
     let s = serves .stored in
     let new = told-stands given rs (g .R·Store .kept (e .routes)) (g .L·Store .kept (e .leaves)) (g .R·Store .content (e .routes)) (g .L·Store .content (e .leaves)) s p (c .get .result) false
-      (c .get .ensures (s .routes-sound)) (c .if-is-none .ensures tt) in
+    (c .get .ensures (s .routes-sound)) (c .if-is-none .ensures tt) in
     let narrow : given .width ≤ 128 = subst (λ w. w ≤ 128) (sym wide) (g .F·Family·met .most) in
     enters-turn given rs a n p row right (g .R·Store .kept) (g .R·Store .content) (g .L·Store .kept) (g .L·Store .content) e f (c .enter .result) h good new
     (c .enter .ensures given rs (record { narrow = narrow; serves = serves; sound = enter-sound given rs a n p row right h good new (serves .ledger) }) new)
@@ -81,7 +81,7 @@ returns g c = λ given rs wide serves.
     let good = good-hop h (c .if-hop-eq0 .left) (c .if-hop-gt-GREATEST .left) in
     let s = serves .stored in
     let standing = told-stands given rs (g .R·Store .kept (e .routes)) (g .L·Store .kept (e .leaves)) (g .R·Store .content (e .routes)) (g .L·Store .content (e .leaves)) s p (c .get .result) true
-      (c .get .ensures (s .routes-sound)) (c .if-is-none .ensures tt) in
+    (c .get .ensures (s .routes-sound)) (c .if-is-none .ensures tt) in
     let narrow : given .width ≤ 128 = subst (λ w. w ≤ 128) (sym wide) (g .F·Family·met .most) in
     let node = standing-node rs p standing in
     let tree = entering-node rs p h node in

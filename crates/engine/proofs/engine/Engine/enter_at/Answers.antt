@@ -23,7 +23,7 @@ returns-then-added-room g c = λ given rs ready room node leads.
     let lc = g .L·Store .content (e .leaves) in
     let counted = c .count-missing-added .ensures (s .routes-sound) (s .leaves-sound) (shape-at (pushed rs) p) (taken leads) (fits (given .width) rs p (ready .serves .ledger .short) (ready .narrow) node) in
     let full = node-full given rs (g .R·Store .kept (e .routes)) (g .L·Store .kept (e .leaves)) rc lc s p h node (c .count-missing-added .result) (c .room .result)
-      (counted-reach given rs (g .R·Store .kept (e .routes)) (g .L·Store .kept (e .leaves)) rc lc s p (c .count-missing-added .result) counted) (c .room .ensures (s .leaves-sound)) (c .if-added-room .taken) in
+    (counted-reach given rs (g .R·Store .kept (e .routes)) (g .L·Store .kept (e .leaves)) rc lc s p (c .count-missing-added .result) counted) (c .room .ensures (s .leaves-sound)) (c .if-added-room .taken) in
     refused-by given (g .R·Store .kept) (g .R·Store .content) (g .L·Store .kept) (g .L·Store .content) rs ss e e (room-checks given rs ss) LeavesFull (no-leaf given rs ss room full) (ready .serves) (record { routes = refl; leaves = refl; slots = refl; start = refl })
 
 pub returns : need.returns
@@ -38,7 +38,7 @@ returns g c = λ given rs ready room node leads.
     let lc = g .L·Store .content (e .leaves) in
     let counted = c .count-missing-added .ensures (s .routes-sound) (s .leaves-sound) (shape-at (pushed rs) p) (taken leads) (fits (given .width) rs p (ready .serves .ledger .short) (ready .narrow) node) in
     let free = node-fits given rs (g .R·Store .kept (e .routes)) (g .L·Store .kept (e .leaves)) rc lc s p h node (c .count-missing-added .result) (c .room .result)
-      (counted-reach given rs (g .R·Store .kept (e .routes)) (g .L·Store .kept (e .leaves)) rc lc s p (c .count-missing-added .result) counted) (c .room .ensures (s .leaves-sound)) (c .if-added-room .left) in
+    (counted-reach given rs (g .R·Store .kept (e .routes)) (g .L·Store .kept (e .leaves)) rc lc s p (c .count-missing-added .result) counted) (c .room .ensures (s .leaves-sound)) (c .if-added-room .left) in
     let tree = entering-node rs p h node in
     let none = all-room given rs ss room free (still-fits given rs ss (ready .serves .ledger) tree) in
     let sound = ready .sound none in

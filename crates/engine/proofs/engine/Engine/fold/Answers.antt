@@ -19,8 +19,8 @@ returns-in-Ok g c =
       leaves = refl;
       start = refl;
       folds = λ sound t old held.
-        drew (table .slots) (after .slots) (c .args .self .now .start) t (pruned (others m p) t p) (table .sound) old held (path .kept)
-        (c .in-Ok .start) (c .count-before .result) (c .count .result) _ (path .pruned sound t (shapes t) (taken old) held) (c .count-before .ensures .used) (c .count .ensures .used) (c .saturating-sub-made .ensures);
+          drew (table .slots) (after .slots) (c .args .self .now .start) t (pruned (others m p) t p) (table .sound) old held (path .kept)
+          (c .in-Ok .start) (c .count-before .result) (c .count .result) _ (path .pruned sound t (shapes t) (taken old) held) (c .count-before .ensures .used) (c .count .ensures .used) (c .saturating-sub-made .ensures);
     }
 
 pub returns-in-Err : need.returns-in-Err
@@ -36,6 +36,6 @@ returns-in-Err g c =
       leaves = refl;
       start = refl;
       folds = λ sound t old held.
-        full (table .slots) (after .slots) (c .args .self .now .start) t (pruned (others m p) t p) (table .sound) old held (path .kept)
-        (last .slots) (c .in-Err .refusal) (after .sound) (path .pruned sound t (shapes t) (taken old) held) (c .keep-only .ensures) (last .long ∙ sym (table .long));
+          full (table .slots) (after .slots) (c .args .self .now .start) t (pruned (others m p) t p) (table .sound) old held (path .kept)
+          (last .slots) (c .in-Err .refusal) (after .sound) (path .pruned sound t (shapes t) (taken old) held) (c .keep-only .ensures) (last .long ∙ sym (table .long));
     }

@@ -15,8 +15,8 @@ returns-in-Ok g c =
       leaves = refl;
       start = refl;
       grows = λ t old held.
-        drew (table .slots) (after .slots) (c .args .self .now .start) t (grown (row-of (c .args .at .now)) t) (table .sound) old held (path .kept)
-        (c .in-Ok .start) (c .count-before .result) (c .count .result) _ (path .grown t (shapes t) (taken old) held) (c .count-before .ensures .used) (c .count .ensures .used) (c .saturating-sub-made .ensures);
+          drew (table .slots) (after .slots) (c .args .self .now .start) t (grown (row-of (c .args .at .now)) t) (table .sound) old held (path .kept)
+          (c .in-Ok .start) (c .count-before .result) (c .count .result) _ (path .grown t (shapes t) (taken old) held) (c .count-before .ensures .used) (c .count .ensures .used) (c .saturating-sub-made .ensures);
     }
 
 pub returns-in-Err : need.returns-in-Err
@@ -30,6 +30,6 @@ returns-in-Err g c =
       leaves = refl;
       start = refl;
       grows = λ t old held.
-        full (table .slots) (after .slots) (c .args .self .now .start) t (grown (row-of (c .args .at .now)) t) (table .sound) old held (path .kept)
-        (last .slots) (c .in-Err .refusal) (after .sound) (path .grown t (shapes t) (taken old) held) (c .keep-only .ensures) (last .long ∙ sym (table .long));
+          full (table .slots) (after .slots) (c .args .self .now .start) t (grown (row-of (c .args .at .now)) t) (table .sound) old held (path .kept)
+          (last .slots) (c .in-Err .refusal) (after .sound) (path .grown t (shapes t) (taken old) held) (c .keep-only .ensures) (last .long ∙ sym (table .long));
     }

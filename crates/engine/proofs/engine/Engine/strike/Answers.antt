@@ -51,6 +51,6 @@ returns g c = λ given rs ready stands.
     let old : Unfolds (e1 .table .slots) (e1 .start) (pushed rs) = subst (λ k. Unfolds (e1 .table .slots) k (pushed rs)) (sym (fold .start)) (drew .old) in
     let leads2 : Unfolds (e2 .table .slots) start (pushed ss) = subst (λ t. Unfolds (t .slots) start (pushed ss)) (sym (c .clear .ensures .table)) leads in
     let stored = c .clear .ensures .clears given rs
-      (record { narrow = ready .narrow; before = ready .serves .ledger; after = sound; stored = stored-still given (g .R·Store .kept) (g .R·Store .content) (g .L·Store .kept) (g .L·Store .content) e e1 rs (fold .routes) (fold .leaves) s }) stands leads old next in
+    (record { narrow = ready .narrow; before = ready .serves .ledger; after = sound; stored = stored-still given (g .R·Store .kept) (g .R·Store .content) (g .L·Store .kept) (g .L·Store .content) e e1 rs (fold .routes) (fold .leaves) s }) stands leads old next in
     granted-by given (g .R·Store .kept) (g .R·Store .content) (g .L·Store .kept) (g .L·Store .content) rs ss e e3 (fold-checks rs ss) (c .in-Continue-drawn .drawn .made) none (new-by rs ss (c .in-Continue-drawn .drawn .made) (both ∙ drew .number))
     (serves-moved given (g .R·Store .kept) (g .R·Store .content) (g .L·Store .kept) (g .L·Store .content) e2 e3 ss start (c .redraw .ensures .routes) (c .redraw .ensures .leaves) (c .redraw .ensures .moves) sound stored leads2)

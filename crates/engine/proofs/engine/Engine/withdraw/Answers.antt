@@ -30,7 +30,7 @@ returns-then-is-none g c = λ given rs wide serves.
     let right : refusal-of (given .width) a n ≡ None = subst (λ w. refusal-of w a n ≡ None) (sym wide) (c .in-Continue-at .ensures tt .0) in
     let s = serves .stored in
     let unknown = told-stands given rs (g .R·Store .kept (e .routes)) (g .L·Store .kept (e .leaves)) (g .R·Store .content (e .routes)) (g .L·Store .content (e .leaves)) s p (c .get .result) false
-      (c .get .ensures (s .routes-sound)) (c .if-is-none .ensures tt) in
+    (c .get .ensures (s .routes-sound)) (c .if-is-none .ensures tt) in
     refused-by given (g .R·Store .kept) (g .R·Store .content) (g .L·Store .kept) (g .L·Store .content) rs (struck rs _) e e (withdraw-checks given rs a n) Unknown (unknown-by given rs a n p row right unknown) serves (record { routes = refl; leaves = refl; slots = refl; start = refl })
 
 pub returns : need.returns
@@ -44,7 +44,7 @@ returns g c = λ given rs wide serves.
     let right : refusal-of (given .width) a n ≡ None = subst (λ w. refusal-of w a n ≡ None) (sym wide) (c .in-Continue-at .ensures tt .0) in
     let s = serves .stored in
     let standing = told-stands given rs (g .R·Store .kept (e .routes)) (g .L·Store .kept (e .leaves)) (g .R·Store .content (e .routes)) (g .L·Store .content (e .leaves)) s p (c .get .result) true
-      (c .get .ensures (s .routes-sound)) (c .if-is-none .ensures tt) in
+    (c .get .ensures (s .routes-sound)) (c .if-is-none .ensures tt) in
     let narrow : given .width ≤ 128 = subst (λ w. w ≤ 128) (sym wide) (g .F·Family·met .most) in
     strikes-turn given rs a n p row right (g .R·Store .kept) (g .R·Store .content) (g .L·Store .kept) (g .L·Store .content) e f (c .strike .result) standing
     (c .strike .ensures given rs (record { narrow = narrow; serves = serves; sound = strike-sound given rs a n p row right standing (serves .ledger) }) standing)
