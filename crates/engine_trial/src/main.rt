@@ -187,7 +187,7 @@ fn one_call<F: Family + Copy, R: Store, L: Store>(
     Ok(())
 }
 
-fn trial<F: Family + Copy, R: Store, L: Store>(
+fn trial<F: Family + Copy, R: Store + Drop, L: Store + Drop>(
     heap: Global,
     routes: R,
     leaves: L,
@@ -228,6 +228,18 @@ fn show(rt: &LibcRuntime, name: &str, tally: &Tally) -> io::Result<()> {
     }
 }
 
+// Stores are lent, so that any pile of them serves.
+fn run<F: Family + Copy, R: Store, L: Store>(
+    rt: &LibcRuntime,
+    name: &str,
+    routes: &mut R,
+    leaves: &mut L,
+    plan: Plan,
+) -> io::Result<()> {
+    let tally = trial::<F, Lent<R>, Lent<L>>(rt.alloc(), Lent::new(routes), Lent::new(leaves), plan)?;
+    show(rt, name, &tally)
+}
+
 fn try_narrow(rt: &LibcRuntime) -> io::Result<()> {
     let mut route_slots = [Slot::Free; 9];
     let mut leaf_slots = [Slot::Free; 13];
@@ -239,8 +251,7 @@ fn try_narrow(rt: &LibcRuntime) -> io::Result<()> {
         shortest: 0,
         all_addresses: true,
     };
-    let tally = trial::<Narrow, Lent<FlatRow>, Lent<FlatRow>>(rt.alloc(), Lent::new(&mut routes), Lent::new(&mut leaves), plan)?;
-    show(rt, "narrow", &tally)
+    run::<Narrow, FlatRow, FlatRow>(rt, "narrow", &mut routes, &mut leaves, plan)
 }
 
 fn try_ipv4(rt: &LibcRuntime) -> io::Result<()> {
@@ -249,13 +260,12 @@ fn try_ipv4(rt: &LibcRuntime) -> io::Result<()> {
     let mut routes = FlatRow::new(&mut route_slots);
     let mut leaves = Layer::new(Fnv, FlatRow::new(&mut leaf_slots));
     let plan = Plan {
-        calls: 3_000,
+        calls: 2_000,
         prefixes: 90,
         shortest: 3,
         all_addresses: false,
     };
-    let tally = trial::<Ipv4, Lent<FlatRow>, Lent<Layer<Fnv, FlatRow>>>(rt.alloc(), Lent::new(&mut routes), Lent::new(&mut leaves), plan)?;
-    show(rt, "ipv4", &tally)
+    run::<Ipv4, FlatRow, Layer<Fnv, FlatRow>>(rt, "ipv4", &mut routes, &mut leaves, plan)
 }
 
 // Long prefixes, so that vertices are full before routes and leaves are.
@@ -264,13 +274,12 @@ fn try_above<S: Store>(rt: &LibcRuntime, lower: &mut S) -> io::Result<()> {
     let mut routes = FlatRow::new(&mut route_slots);
     let mut leaves = Layer::new(Fold, Lent::new(lower));
     let plan = Plan {
-        calls: 500,
+        calls: 300,
         prefixes: 60,
         shortest: 100,
         all_addresses: false,
     };
-    let tally = trial::<Ipv6, Lent<FlatRow>, Lent<Layer<Fold, Lent<S>>>>(rt.alloc(), Lent::new(&mut routes), Lent::new(&mut leaves), plan)?;
-    show(rt, "ipv6", &tally)
+    run::<Ipv6, FlatRow, Layer<Fold, Lent<S>>>(rt, "ipv6", &mut routes, &mut leaves, plan)
 }
 
 fn try_ipv6(rt: &LibcRuntime) -> io::Result<()> {

@@ -126,16 +126,16 @@ fn number(census: &mut Census, zero: usize, one: usize) -> Result<usize, AllocEr
     Ok(at)
 }
 
-// The number of the shape of a node, and all that lies below it into the census.
-fn visit(routes: &[Route], node: Row, census: &mut Census) -> Result<usize, AllocError> {
-    if node.len >= 128 || !branches(routes, &node) {
+// The number of the shape of a node, and all that lies below it into the census. No node is more than `deepest` bits further down.
+fn visit(routes: &[Route], node: Row, deepest: usize, census: &mut Census) -> Result<usize, AllocError> {
+    if deepest == 0 || !branches(routes, &node) {
         if longest(routes, &node).is_some() {
             census.matched = census.matched.saturating_add(1);
         }
         return Ok(0);
     }
-    let zero = visit(routes, child(&node, false), census)?;
-    let one = visit(routes, child(&node, true), census)?;
+    let zero = visit(routes, child(&node, false), deepest - 1, census)?;
+    let one = visit(routes, child(&node, true), deepest - 1, census)?;
     number(census, zero, one)
 }
 
@@ -160,6 +160,7 @@ impl Model {
 }
 
 // What is seen of two lists of routes, before and after a change.
+#[derive(Drop)]
 struct Seen {
     shapes_before: u64,
     shapes_both: u64,
@@ -176,10 +177,10 @@ fn see(heap: Global, before: &[Route], after: &[Route]) -> Result<Seen, AllocErr
         forks: Vec::new(heap),
         matched: 0,
     };
-    let _ = visit(before, root, &mut census)?;
+    let _ = visit(before, root, 128, &mut census)?;
     let shapes_before = census.forks.len() as u64;
     census.matched = 0;
-    let _ = visit(after, root, &mut census)?;
+    let _ = visit(after, root, 128, &mut census)?;
     Ok(Seen {
         shapes_before,
         shapes_both: census.forks.len() as u64,
