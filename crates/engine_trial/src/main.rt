@@ -97,8 +97,11 @@ fn draw_prefix(random: &mut Generator, plan: Plan, width: usize) -> (Row, u64) {
         second: number.wrapping_mul(0xc2b2_ae3d_27d4_eb4f),
         len: 128,
     };
-    let widest = (width as u64).saturating_add(1).saturating_sub(plan.shortest);
-    let len = plan.shortest.saturating_add((spread.first >> 7) % widest.max(1));
+    let widest = (width as u64)
+        .saturating_add(1)
+        .saturating_sub(plan.shortest);
+    let len = plan.shortest
+        .saturating_add((spread.first >> 7) % widest.max(1));
     match random.below(40) {
         0 => (front(&spread, width), len),
         1 => (front(&spread, width), (width as u64).saturating_add(1)),
@@ -219,9 +222,15 @@ fn show(rt: &LibcRuntime, name: &str, tally: &Tally) -> io::Result<()> {
     let hops = tally.hops;
     let nothing = tally.nothing;
     let counts = tally.counts;
-    println!(rt, "{name}: {changed} changes with {new_shapes} new shapes, {hops} hops, {nothing} none, {counts} counts")?;
+    println!(
+        rt,
+        "{name}: {changed} changes with {new_shapes} new shapes, {hops} hops, {nothing} none, {counts} counts"
+    )?;
     let [_, one, two, three, four, five, six, seven] = tally.refused;
-    println!(rt, "  refused 1: {one}, 2: {two}, 3: {three}, 4: {four}, 5: {five}, 6: {six}, 7: {seven}")?;
+    println!(
+        rt,
+        "  refused 1: {one}, 2: {two}, 3: {three}, 4: {four}, 5: {five}, 6: {six}, 7: {seven}"
+    )?;
     match tally.wrong {
         0 => println!(rt, "  all answers agreed"),
         wrong => println!(rt, "  {wrong} answers differed"),
@@ -236,7 +245,12 @@ fn run<F: Family + Copy, R: Store, L: Store>(
     leaves: &mut L,
     plan: Plan,
 ) -> io::Result<()> {
-    let tally = trial::<F, Lent<R>, Lent<L>>(rt.alloc(), Lent::new(routes), Lent::new(leaves), plan)?;
+    let tally = trial::<F, Lent<R>, Lent<L>>(
+        rt.alloc(),
+        Lent::new(routes),
+        Lent::new(leaves),
+        plan,
+    )?;
     show(rt, name, &tally)
 }
 

@@ -127,7 +127,12 @@ fn number(census: &mut Census, zero: usize, one: usize) -> Result<usize, AllocEr
 }
 
 // The number of the shape of a node, and all that lies below it into the census. No node is more than `deepest` bits further down.
-fn visit(routes: &[Route], node: Row, deepest: usize, census: &mut Census) -> Result<usize, AllocError> {
+fn visit(
+    routes: &[Route],
+    node: Row,
+    deepest: usize,
+    census: &mut Census,
+) -> Result<usize, AllocError> {
     if deepest == 0 || !branches(routes, &node) {
         if longest(routes, &node).is_some() {
             census.matched = census.matched.saturating_add(1);
@@ -201,7 +206,13 @@ impl Model {
         None
     }
 
-    pub fn announce(&mut self, heap: Global, row: &Row, len: u64, hop: u64) -> Result<Expected, AllocError> {
+    pub fn announce(
+        &mut self,
+        heap: Global,
+        row: &Row,
+        len: u64,
+        hop: u64,
+    ) -> Result<Expected, AllocError> {
         if let Some(number) = self.bad_prefix(row, len) {
             return Ok(Expected::Refused(number));
         }
@@ -262,6 +273,10 @@ impl Model {
 
     pub fn count(&self, heap: Global) -> Result<Expected, AllocError> {
         let seen = see(heap, self.routes.as_slice(), self.routes.as_slice())?;
-        Ok(Expected::Counts(self.routes.len() as u64, seen.matched_after, seen.shapes_both))
+        Ok(Expected::Counts(
+            self.routes.len() as u64,
+            seen.matched_after,
+            seen.shapes_both,
+        ))
     }
 }

@@ -108,7 +108,10 @@ fn show(rt: &LibcRuntime, answer: Answer) -> io::Result<()> {
         Answer::Changed(new) => println!(rt, "ok,{new}"),
         Answer::Hop(hop) => println!(rt, "hop,{hop}"),
         Answer::NoRoute => println!(rt, "none"),
-        Answer::Counts(routes, leaves, vertices) => println!(rt, "count,{routes},{leaves},{vertices}"),
+        Answer::Counts(routes, leaves, vertices) => println!(
+            rt,
+            "count,{routes},{leaves},{vertices}"
+        ),
         Answer::Refused(refusal) => {
             let number = refusal.number();
             let word = refusal.word();
