@@ -1,5 +1,8 @@
 -- What a change needs to be made, and how it settles, e before and f after. Assumes nothing.
 --   room-checks g rs ss       the refusal of the first check that finds no room for the routes ss
+--   fold-checks rs ss         the refusal of the check that finds no room for the shapes of rs and ss
+--   Ready g .. rs ss o e      the engine serves rs, and ss is a list that calls lead to where no check refuses, which o tells
+--   Entering g .. rs p h e f r     r is what entering the route of p settles
 --   Enters .. p h e f r       r is what entering a new route of p answers
 --   Enters-at                 the same for a node of the tree, which the edge leads to, where the routes have room
 --   Enters-below              the same below the leaf q

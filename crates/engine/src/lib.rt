@@ -9,6 +9,8 @@ mod write;
 
 pub use call::Answer;
 pub use call::Call;
+pub use call::CallClone;
 pub use engine::Engine;
 pub use run::Turn;
+pub use run::TurnClone;
 pub use run::replay;
