@@ -1,5 +1,7 @@
 // The buckets of listed prefixes, for whoever lays out a line card's memory: for each line of the standard input the four
 // buckets of each chooser, or why the line is refused, and at the end how full the fullest bucket would be.
+#![tactic(auto)]
+
 use chooser::{Fnv, Fold, Load, buckets};
 use net::Prefix;
 use refusal::Refusal;

@@ -1,4 +1,6 @@
 // Bucket choosers: which of 256 buckets a prefix goes to at each of four tries.
+#![tactic(auto)]
+
 pub mod fnv;
 pub mod fold;
 pub mod load;

@@ -1,4 +1,6 @@
 // The reader of lines: which command a line is, with each field as a part of the line.
+#![tactic(auto)]
+
 ghost use Rattle.std.specs.Prelude.{◌≡◌, ℕ, ◌≤◌, List, length};
 ghost use Rattle.command.specs.Command.{announced, command_of, counted, looked_up, most_bytes, part_of, parts_from, withdrawn, Parts, Place, Reads};
 

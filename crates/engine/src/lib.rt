@@ -1,4 +1,6 @@
 // The forwarding engine: routes come and go, and each address gets the hop of its longest match.
+#![tactic(auto)]
+
 mod announce;
 mod call;
 mod draw;

@@ -1,4 +1,6 @@
 // Drives engines with long pseudo-random lists of calls beside a plain model, compares all answers, and counts them by kind.
+#![tactic(auto)]
+
 mod model;
 
 use chooser::{Fnv, Fold};

@@ -1,4 +1,6 @@
 // A table of the vertices of a graph: one slot for each different shape.
+#![tactic(auto)]
+
 ghost use Rattle.graph.specs.View.{ViewLaws, ForkLaws, KeepLaws};
 
 mod calls;

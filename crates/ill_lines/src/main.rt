@@ -1,4 +1,6 @@
 // Answers text lines on the standard input by an engine for IPv4 addresses.
+#![tactic(auto)]
+
 use net::Ipv4;
 use server::serve;
 use std::io;

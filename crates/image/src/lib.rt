@@ -1,4 +1,6 @@
 // Images with a stride: what they are and what a walk through one answers, with the laws that tie them to the graph.
+#![tactic(auto)]
+
 ghost use Rattle.image.specs.Cases.{CasesHold};
 ghost use Rattle.image.specs.Count.{CountLaw};
 ghost use Rattle.image.specs.Picture.{ImageLaws};

@@ -1,4 +1,6 @@
 // Making images of an engine's graph, and looking addresses up by them.
+#![tactic(auto)]
+
 mod draw;
 mod look;
 mod making;

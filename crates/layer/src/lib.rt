@@ -1,4 +1,6 @@
 // The bucket layer: a store of 256 buckets with three slots each, on any other store.
+#![tactic(auto)]
+
 mod bucket;
 pub mod layer;
 pub mod place;

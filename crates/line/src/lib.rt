@@ -1,4 +1,6 @@
 // Text lines: what a line asks of an engine, and how the answer is written.
+#![tactic(auto)]
+
 mod buffer;
 mod read;
 mod tell;

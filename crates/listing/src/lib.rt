@@ -1,4 +1,6 @@
 // Listings: a prefix a line, as hexadecimal digits of the address, a comma and a decimal length.
+#![tactic(auto)]
+
 ghost use Rattle.std.specs.Prelude.{◌≡◌, ◌+◌, length};
 ghost use Rattle.text.specs.Fields.{decimal};
 ghost use Rattle.listing.specs.Listing.{address_row, read_prefix, read_two, Reads};

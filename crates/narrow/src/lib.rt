@@ -1,4 +1,6 @@
 // A family of five bits, for trials: all its addresses can be looked at.
+#![tactic(auto)]
+
 ghost use Rattle.std.specs.Prelude.{◌<◌};
 ghost use Rattle.bits.specs.Rows.{word};
 ghost use Rattle.bits.proofs.Words.{length_word};

@@ -1,4 +1,6 @@
 // Prefixes, and addresses of any family.
+#![tactic(auto)]
+
 pub mod family;
 pub mod halves;
 pub mod ipv4;

@@ -1,4 +1,6 @@
 // The path of a prefix: down the graph, up the routes, and folded back when its route is struck.
+#![tactic(auto)]
+
 ghost use Rattle.path.specs.PathLaws.{PathLaws};
 
 mod down;

@@ -1,5 +1,7 @@
 // Fills two piles with the entries of a listing and tells where they went: buckets over a row, and buckets over buckets over a row.
 // A line is an address, a length and a hop. Then every third entry is removed, and all are looked up again.
+#![tactic(auto)]
+
 use chooser::{Chooser, Fnv, Fold};
 use layer::{Layer, Place};
 use net::Prefix;

@@ -1,4 +1,6 @@
 // Pseudo-random numbers, the same in every run: a linear congruence (Knuth's MMIX) whose high bits are drawn.
+#![tactic(auto)]
+
 ghost use Rattle.std.specs.Prelude.{◌≡◌, ◌+◌, ◌*◌, ◌/◌, ◌%◌, ◌^◌, ◌<◌};
 
 #[derive(Drop)]

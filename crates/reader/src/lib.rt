@@ -1,4 +1,6 @@
 // A reader of images: it borrows the rows of an image and walks addresses through it.
+#![tactic(auto)]
+
 mod reader;
 mod rows;
 mod set_up;

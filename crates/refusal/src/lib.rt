@@ -1,4 +1,6 @@
 // Grounds for saying no. Every refusal of the product is one of these, with a number and a word that users see.
+#![tactic(auto)]
+
 mod hops;
 
 ghost use Rattle.std.specs.Prelude.{◌≡◌};

@@ -1,6 +1,8 @@
 // Replays a list of calls: each line of the standard input is a call to an IPv4 engine over a row of 512 routes and buckets over
 // another such row for the leaves, and each line of the output what it answered.
 //   A,ADDRESS,LENGTH,HOP announces    W,ADDRESS,LENGTH withdraws    L,ADDRESS looks up    Q counts
+#![tactic(auto)]
+
 use chooser::Fnv;
 use engine::{Answer, Call, Turn, replay};
 use layer::Layer;

@@ -1,4 +1,6 @@
 // The stores of a forwarding server, and the loop that answers the lines of an input as they come.
+#![tactic(auto)]
+
 use chooser::Fnv;
 use layer::Layer;
 use net::Family;

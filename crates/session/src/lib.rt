@@ -1,4 +1,6 @@
 // Sessions: a stream of text lines, in pieces cut anywhere, and the replies to its lines.
+#![tactic(auto)]
+
 mod feed;
 mod session;
 

@@ -1,6 +1,8 @@
 // How much vertex memory a list of routes takes. It reads a prefix a line, as hexadecimal digits of the address, a comma and a decimal
 // length; an empty line ends a list and begins the next. For each list it writes the numbers of routes, of tree nodes and leaves, and of
 // vertices. It stops at a line that is refused, or that the vertices do not suffice for, and says which.
+#![tactic(auto)]
+
 mod census;
 mod count;
 mod show;

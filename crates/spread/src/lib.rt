@@ -1,4 +1,6 @@
 // What no contract of the table of vertices speaks of: that its calls cost by vertices, and not by the nodes of the trees.
+#![tactic(auto)]
+
 #[cfg(test)]
 mod tests {
     use graph::{Edge, Table};

@@ -1,4 +1,6 @@
 // Stores: finite maps from prefixes to hops, with a limit.
+#![tactic(auto)]
+
 pub mod flat;
 pub mod lent;
 pub mod slot;

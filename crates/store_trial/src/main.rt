@@ -1,5 +1,7 @@
 // Drives a flat row, a layer over a row and a pile of two layers with one long pseudo-random list of calls, each beside a plain map
 // of the standard library, and counts the calls by kind and outcome. An answer that differs from the map's is counted as wrong.
+#![tactic(auto)]
+
 use chooser::{Fnv, Fold};
 use layer::Layer;
 use net::Prefix;

@@ -1,4 +1,6 @@
 // The fields of a line: where they part, and the numbers and bits that they write.
+#![tactic(auto)]
+
 mod lines;
 
 ghost use Rattle.std.specs.Prelude.{◌≡◌, ◌*◌, ◌^◌, ◌<◌, ◌≤◌, length, IfSome, if◌then◌else◌, Some, None, MatchOption, nat_le};

@@ -1,4 +1,6 @@
 // The laws of the pushed tree, of its leaves and shapes, of the ledger and of other graphs, as contracts: so a check asks for their proofs.
+#![tactic(auto)]
+
 ghost use Rattle.tree.specs.CountLaws.{CountLaws};
 ghost use Rattle.tree.specs.Example.{Example};
 ghost use Rattle.tree.specs.GraphLaws.{GraphLaws};

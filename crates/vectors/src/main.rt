@@ -1,4 +1,6 @@
 // The FNV-1a hash of each line of the standard input, in hexadecimal, to be compared with the published list.
+#![tactic(auto)]
+
 use std::io;
 use std::io::Read;
 use text::Lines;
