@@ -17,7 +17,7 @@ returns-then-b-lt48 c =
       | then-b-lt48-via-then-b-lt48 w ↦ inl w.if-b-lt48.true
       | then-b-lt48-via-else-b-lt48+then-b-gt57 w ↦ inr w.if-b-gt57.true
     ])) c.loop-b.invariant
-    ∙ sym (sized c.args.field.now c.if-len-gt-MOST-DIGITS.false c.if-len-eq0.false (elim c.else-len-gt1.branch [
+    ∙ sym (sized c.args.field.now c.if-len-gt-MOST_DIGITS.false c.if-len-eq0.false (elim c.else-len-gt1.branch [
       | else-len-gt1-via-then-len-gt1+else-field-eq48 w ↦ inl w.if-field-eq48.false
       | else-len-gt1-via-else-len-gt1 w ↦ inr w.if-len-gt1.false
     ]))
@@ -30,7 +30,7 @@ loop-b-preserved c =
 pub returns : goal.returns
 returns c =
     written_all c.args.field.now c.loop-b.b-index c.loop-b.n c.loop-b-test.false c.loop-b.invariant
-    ∙ sym (sized c.args.field.now c.if-len-gt-MOST-DIGITS.false c.if-len-eq0.false (elim c.else-len-gt1.branch [
+    ∙ sym (sized c.args.field.now c.if-len-gt-MOST_DIGITS.false c.if-len-eq0.false (elim c.else-len-gt1.branch [
       | else-len-gt1-via-then-len-gt1+else-field-eq48 w ↦ inl w.if-field-eq48.false
       | else-len-gt1-via-else-len-gt1 w ↦ inr w.if-len-gt1.false
     ]))

@@ -5,14 +5,14 @@ use Rattle.text.proofs.hex_word.Goals as goal
 pub loop-b-init : goal.loop-b-init
 loop-b-init c = hex_none c.args.digits.now
 
-pub returns-in-default : goal.returns-in-default
-returns-in-default c = hex_bad c.args.digits.now c.loop-b.b-index c.loop-b.n c.loop-b-test.true (sym c.in-default.ensures) c.loop-b.invariant
+pub returns-in_default : goal.returns-in_default
+returns-in_default c = hex_bad c.args.digits.now c.loop-b.b-index c.loop-b.n c.loop-b-test.true (sym c.in_default.ensures) c.loop-b.invariant
 
-pub overflow-mul-n : goal.overflow-mul-n
-overflow-mul-n c = let r = hex_room c.args.digits.now c.loop-b.b-index c.loop-b.n (let t = c.loop-b-test.true in let s = c.requires in omega arith) c.loop-b.invariant in omega arith
+pub overflow_mul-n : goal.overflow_mul-n
+overflow_mul-n c = let r = hex_room c.args.digits.now c.loop-b.b-index c.loop-b.n (let t = c.loop-b-test.true in let s = c.requires in omega arith) c.loop-b.invariant in omega arith
 
-pub overflow-add-n : goal.overflow-add-n
-overflow-add-n c = let r = hex_room c.args.digits.now c.loop-b.b-index c.loop-b.n (let t = c.loop-b-test.true in let s = c.requires in omega arith) c.loop-b.invariant in let d = hex_digit_small (get_or c.args.digits.now c.loop-b.b-index 0) c.in-Some.digit (sym c.in-Some.ensures) in let e = c.from.ensures in omega arith
+pub overflow_add-n : goal.overflow_add-n
+overflow_add-n c = let r = hex_room c.args.digits.now c.loop-b.b-index c.loop-b.n (let t = c.loop-b-test.true in let s = c.requires in omega arith) c.loop-b.invariant in let d = hex_digit_small (get_or c.args.digits.now c.loop-b.b-index 0) c.in-Some.digit (sym c.in-Some.ensures) in let e = c.from.ensures in omega arith
 
 pub loop-b-preserved : goal.loop-b-preserved
 loop-b-preserved c =

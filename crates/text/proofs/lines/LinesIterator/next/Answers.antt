@@ -8,14 +8,14 @@ use Rattle.std.proofs.iter.Next.{firm}
 pub returns-then-rest-eq0 : goal.returns-then-rest-eq0
 returns-then-rest-eq0 c = record { steps = (no_lines c.args.self.now.rest.now c.if-rest-eq0.true, refl); goes = firm (tt) (λ h. search rules) }
 
-pub returns-in-default : goal.returns-in-default
-returns-in-default c =
+pub returns-in_default : goal.returns-in_default
+returns-in_default c =
     let bs = c.args.self.now.rest.now in
     let n = length bs in
     let some : 0 < n = let h = c.if-rest-eq0.false in omega arith in
     let empty : length (take (n - n) (drop n bs)) ≡ 0 = simp (length-take, length-drop) (omega arith) in
     record {
-      steps = lines_one bs some c.in-default.ensures.place ∙ ap (λ ls. bs ∷ ls) (sym (no_lines (take (n - n) (drop n bs)) empty));
+      steps = lines_one bs some c.in_default.ensures.place ∙ ap (λ ls. bs ∷ ls) (sym (no_lines (take (n - n) (drop n bs)) empty));
       goes = firm ((tt, tt, let e = empty in omega arith)) (λ h. search rules);
     }
 
