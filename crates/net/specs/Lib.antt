@@ -1,2 +1,3 @@
 pub mod Prefix
 pub mod Rows
+pub mod Equality

@@ -2,9 +2,6 @@
 ghost use Rattle.std.specs.Prelude.{◌≡◌, false, [], ◌∷◌, ◌++◌, length, take, MatchOption, slice_index_or};
 ghost use Rattle.bits.specs.Rows.{begins as beginning, halves as bits_of, padded, same};
 ghost use Rattle.net.specs.Prefix.{row_of, Makes, PrefixLaws};
-ghost use Rattle.std.specs.Cmp.Rules.{comparing};
-ghost use Rattle.std.proofs.Common.{rules, arith};
-ghost use Rattle.std.specs.Cmp as Keys;
 
 use super::Prefix;
 use crate::halves;
@@ -97,9 +94,11 @@ impl Prefix {
 }
 
 impl PartialEq for Prefix {
+    ghost use Rattle.net.specs.Equality.{same_row_partial_equiv};
+
     ghost eq = { λ p q. same (row_of p) (row_of q) };
 
-    ghost laws = { Keys.partial_equiv_from_equiv (first_of (Prim.search (comparing, rules), Prim.grind (arith, Self.row.coded.inj))) };
+    ghost laws = { same_row_partial_equiv };
 
     fn eq(&self, other: &Prefix) -> bool {
         if self.first != other.first || self.second != other.second {
@@ -110,7 +109,9 @@ impl PartialEq for Prefix {
 }
 
 impl Eq for Prefix {
-    ghost laws = { first_of (Prim.search (comparing, rules), Prim.grind (arith, Self.row.coded.inj)) };
+    ghost use Rattle.net.specs.Equality.{same_row_equiv};
+
+    ghost laws = { same_row_equiv };
 }
 
 // A prefix is as long as its row, and there is one prefix for a row.

@@ -16,11 +16,12 @@ filled p one x y e = e
 pub returns-then-self : goal.returns-then-self
 returns-then-self c = length_row c.args.self.now ∙ c.if-self.true
 
-pub invariant-of-result : goal.invariant-of-result
-invariant-of-result c = (
-  let s = c.args.self.now.short in let n = c.if-self.false in omega arith,
-  ((omega arith, omega arith), (clear_padded _ _ _ (row_of c.args.self.now ++ (c.args.one ∷ [])) (longer _ _) (filled _ _ _ _ c.extended-first.ensures), tt)),
-)
+pub invariant_of-result : goal.invariant_of-result
+invariant_of-result c = record {
+  short = let s = c.args.self.now.short in let n = c.if-self.false in omega arith;
+  fits = (omega arith, omega arith);
+  clear = clear_padded _ _ _ (row_of c.args.self.now ++ (c.args.one ∷ [])) (longer _ _) (filled _ _ _ _ c.extended-first.ensures);
+}
 
 pub returns : goal.returns
 returns c = row_is _ (row_of c.args.self.now ++ (c.args.one ∷ [])) (longer _ _) (filled _ _ _ _ c.extended-first.ensures)

@@ -10,4 +10,4 @@ unfolding row_of
 cut p d m e = ap (λ k. take k (halves p.first p.second)) e ∙ sym (take_both d p.len (halves p.first p.second))
 
 pub returns : goal.returns
-returns c = c.front-of.ensures ∙ cut c.args.self.now c.args.d c.min.result c.min.ensures
+returns c = c.front_of.ensures ∙ cut c.args.self.now c.args.d c.min.result c.min.ensures

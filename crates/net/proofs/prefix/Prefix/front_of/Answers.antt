@@ -11,22 +11,18 @@ cut a b x y d k e f g = halves_kept a b x y d e (f ∙ ap (λ n. padded 64 (take
 short : (d m : ℕ) → m ≡ min d 128 → m ≤ 128
 short d m e = omega arith
 
-pub invariant-of-result : goal.invariant-of-result
-invariant-of-result c = (
-  short c.args.d c.min-d.result c.min-d.ensures,
-  (
-    (c.kept-first.type-inv, c.kept-second.type-inv),
-    (
+pub invariant_of-result : goal.invariant_of-result
+invariant_of-result c = record {
+  short = short c.args.d c.min-d.result c.min-d.ensures;
+  fits = (c.kept-first.type_inv, c.kept-second.type_inv);
+  clear =
       clear_padded _ _ c.min-d.result _ (length_front _ _ c.min-d.result (short c.args.d _ c.min-d.ensures))
-          (cut _ _ _ _ _ _ c.kept-first.ensures c.kept-second.ensures c.saturating-sub.ensures),
-      tt,
-    ),
-  ),
-)
+      (cut _ _ _ _ _ _ c.kept-first.ensures c.kept-second.ensures c.saturating_sub.ensures);
+}
 
 pub returns : goal.returns
 returns c =
     row_is _ (take c.min-d.result (halves c.args.first c.args.second)) (length_front _ _ c.min-d.result (short c.args.d _ c.min-d.ensures))
-    (cut _ _ _ _ _ _ c.kept-first.ensures c.kept-second.ensures c.saturating-sub.ensures)
+    (cut _ _ _ _ _ _ c.kept-first.ensures c.kept-second.ensures c.saturating_sub.ensures)
     ∙ ap (λ k. take k (halves c.args.first c.args.second)) c.min-d.ensures
     ∙ take_min c.args.d 128 (halves c.args.first c.args.second) (omega (arith, length_halves c.args.first c.args.second))

@@ -11,15 +11,15 @@ use Rattle.store.proofs.flat.calls.FlatRowStore.put.Goals as goal
 pub bounds-self-i : goal.bounds-self-i
 bounds-self-i c = (spot_holds c.args.self.now.slots.now (row_of c.args.prefix.now) c.in-Some.i (sym c.in-Some.ensures)).1
 
-pub offset-bounds-self-i : goal.offset-bounds-self-i
-offset-bounds-self-i c = let l : c.in-Some.i < length c.args.self.now.slots.now = bounds-self-i c in search rules
+pub offset_bounds-self-i : goal.offset_bounds-self-i
+offset_bounds-self-i c = let l : c.in-Some.i < length c.args.self.now.slots.now = bounds-self-i c in search rules
 
 pub returns-in-Some : goal.returns-in-Some
 returns-in-Some c =
     let xs = c.args.self.now.slots.now in
     let p = c.args.prefix.now in
     let e = sym c.in-Some.ensures in
-    let hop = c.in-ok-hop.ensures in
+    let hop = c.in_ok-hop.ensures in
     rw hop.1 (record {
       limits = ap (λ n. min n 1048576) (length-set xs c.in-Some.i _);
       keeps = λ s. (let r = replaced xs s.kept.apart p c.in-Some.i c.args.hop e in
@@ -33,13 +33,13 @@ returns-then-self-limit c =
     record {
       limits = refl;
       keeps = λ s. s;
-      puts = λ s. put_full xs s.kept.apart c.args.prefix.now c.args.hop (sym c.in-default.ensures) (omega (arith, s.kept.counted, c.limit.ensures.answer, c.if-self-limit.true)) c.in-ok-hop.ensures.0;
+      puts = λ s. put_full xs s.kept.apart c.args.prefix.now c.args.hop (sym c.in_default.ensures) (omega (arith, s.kept.counted, c.limit.ensures.answer, c.if-self-limit.true)) c.in_ok-hop.ensures.0;
     }
 
-pub returns-in-default-find-free : goal.returns-in-default-find-free
-returns-in-default-find-free c =
+pub returns-in_default-find_free : goal.returns-in_default-find_free
+returns-in_default-find_free c =
     let xs = c.args.self.now.slots.now in
-    let all = all_taken xs c.in-default-find-free.ensures in
+    let all = all_taken xs c.in_default-find_free.ensures in
     record {
       limits = refl;
       keeps = λ s. s;
@@ -50,12 +50,12 @@ pub returns : goal.returns
 returns c =
     let xs = c.args.self.now.slots.now in
     let p = c.args.prefix.now in
-    let free = c.in-Some-find-free.ensures in
-    let e = sym c.in-default.ensures in
-    let hop = c.in-ok-hop.ensures in
+    let free = c.in-Some-find_free.ensures in
+    let e = sym c.in_default.ensures in
+    let hop = c.in_ok-hop.ensures in
     rw hop.1 (record {
-      limits = ap (λ n. min n 1048576) (length-set xs c.in-Some-find-free.i _);
-      keeps = λ s. (let r = entered xs s.kept.apart p c.in-Some-find-free.i c.args.hop e free.0 free.1 in
-          row_sound _ c.saturating-add-self.result r.0 (omega (arith, s.kept.counted, s.within, r.1, c.saturating-add-self.ensures)) (omega (arith, s.kept.counted, s.within, r.1, c.limit.ensures.answer, c.if-self-limit.false)));
-      puts = λ s. put_new xs s.kept.apart p c.in-Some-find-free.i c.args.hop e free.0 free.1 (λ z. omega (arith, z, s.kept.counted, c.limit.ensures.answer, c.if-self-limit.false)) hop.0;
+      limits = ap (λ n. min n 1048576) (length-set xs c.in-Some-find_free.i _);
+      keeps = λ s. (let r = entered xs s.kept.apart p c.in-Some-find_free.i c.args.hop e free.0 free.1 in
+          row_sound _ c.saturating_add-self.result r.0 (omega (arith, s.kept.counted, s.within, r.1, c.saturating_add-self.ensures)) (omega (arith, s.kept.counted, s.within, r.1, c.limit.ensures.answer, c.if-self-limit.false)));
+      puts = λ s. put_new xs s.kept.apart p c.in-Some-find_free.i c.args.hop e free.0 free.1 (λ z. omega (arith, z, s.kept.counted, c.limit.ensures.answer, c.if-self-limit.false)) hop.0;
     })
