@@ -14,15 +14,15 @@ returns-then-depth-len m c =
       path = λ t h. pathed_here xs c.args.node (row_of c.args.prefix.now) c.args.depth c.lead.result t (omega (arith, c.len.ensures, c.if-depth-len.true)) c.lead.ensures h;
     }
 
-pub returns-in-err-below : goal.returns-in-err-below
-returns-in-err-below m c =
+pub returns-in_err-below : goal.returns-in_err-below
+returns-in_err-below m c =
     let xs = c.args.self.now.slots in
-    let ys = c.grow-below.new.self.slots in
+    let ys = c.grow_below.new.self.slots in
     let row = row_of c.args.prefix.now in
     let d = c.args.depth in
     let b = c.bit-bit.result in
-    let below = c.in-err-below.ensures in
-    let p = err_from_is_err_and c.from-residual.result c.from-residual.ensures.1 in
+    let below = c.in_err-below.ensures in
+    let p = err_from_is_err_and c.from_residual.result c.from_residual.ensures.1 in
     record {
       kept = below.kept;
       path = λ t h. rw (p.1, p.2) (up_stopped xs ys c.args.node t h below.kept b (drop d row) (drop (d + 1) row) _ (goes_on row d b (omega (arith, c.len.ensures, c.if-depth-len.false)) (sym c.bit-bit.ensures))
@@ -32,13 +32,13 @@ returns-in-err-below m c =
 pub returns-then-bit : goal.returns-then-bit
 returns-then-bit m c =
     let xs = c.args.self.now.slots in
-    let ys = c.grow-below.new.self.slots in
+    let ys = c.grow_below.new.self.slots in
     let zs = c.fork.new.self.slots in
     let row = row_of c.args.prefix.now in
     let d = c.args.depth in
     let b = c.bit-bit.result in
-    let below = c.in-ok-below.ensures in
-    let e = c.in-ok-below.below in
+    let below = c.in_ok-below.ensures in
+    let e = c.in_ok-below.below in
     record {
       kept = kept_then xs ys zs below.kept c.fork.ensures.kept;
       path = λ t h. up_one xs ys c.args.node t h below.kept zs c.fork.ensures.kept (drop d row) (drop (d + 1) row) e c.follow-beside.result c.fork.result
@@ -51,13 +51,13 @@ returns-then-bit m c =
 pub returns-else-bit : goal.returns-else-bit
 returns-else-bit m c =
     let xs = c.args.self.now.slots in
-    let ys = c.grow-below.new.self.slots in
+    let ys = c.grow_below.new.self.slots in
     let zs = c.fork-else-bit.new.self.slots in
     let row = row_of c.args.prefix.now in
     let d = c.args.depth in
     let b = c.bit-bit.result in
-    let below = c.in-ok-below.ensures in
-    let e = c.in-ok-below.below in
+    let below = c.in_ok-below.ensures in
+    let e = c.in_ok-below.below in
     record {
       kept = kept_then xs ys zs below.kept c.fork-else-bit.ensures.kept;
       path = λ t h. up_zero xs ys c.args.node t h below.kept zs c.fork-else-bit.ensures.kept (drop d row) (drop (d + 1) row) e c.follow-beside.result c.fork-else-bit.result

@@ -6,8 +6,8 @@ use Rattle.graph.proofs.Added.{sound_blank}
 use Rattle.graph.proofs.View.{none}
 use Rattle.graph.proofs.table.Table.empty.Goals as goal
 
-pub invariant-of-result : goal.invariant-of-result
-invariant-of-result c = (length-replicate 2048 blank, (sym (ap length (none_in_use 0 2048)), (∣ sound_blank 2048 ∣₁, tt)))
+pub invariant_of-result : goal.invariant_of-result
+invariant_of-result c = record { long = length-replicate 2048 blank; counted = sym (ap length (none_in_use 0 2048)); sound = ∣ sound_blank 2048 ∣₁ }
 
 pub returns : goal.returns
 returns c = record { used = none_in_use 0 2048; holds = none (replicate 2048 blank) (none_in_use 0 2048) }

@@ -8,11 +8,11 @@ use Rattle.graph.proofs.Count.{length_in_use, tally_at_most}
 use Rattle.graph.proofs.Forking.{kept_same, kept_set, found, refused, made, counted_made, sound_made}
 use Rattle.graph.proofs.table.Table.fork.Goals as goal
 
-pub overflow-add-self : goal.overflow-add-self
-overflow-add-self c = let count = length_in_use 0 c.args.self.now.slots in let most = tally_at_most c.args.self.now.slots in search rules
+pub overflow_add-self : goal.overflow_add-self
+overflow_add-self c = let count = length_in_use 0 c.args.self.now.slots in let most = tally_at_most c.args.self.now.slots in search rules
 
-pub invariant-of-self : goal.invariant-of-self
-invariant-of-self c =
+pub invariant_of-self : goal.invariant_of-self
+invariant_of-self c =
     let table = c.args.self.now in
     let xs = table.slots in
     let zero = c.lead-zero in
@@ -21,13 +21,12 @@ invariant-of-self c =
     let place = c.in-Free.ensures in
     let inside : n < length xs = omega (arith, place.1) in
     let leads_zero : Leads xs zero.result = subst (Leads xs) (sym zero.ensures) (led_leads xs c.args.zero) in
-    let leads_one : Leads xs one.result = subst (Leads xs) (sym one.ensures) (led_leads xs c.args.one) in (
-      length-set xs n _ ∙ table.long,
-      (
-        subst (λ v. table.used + 1 ≡ length (in_use (set xs n v))) (sym c.link.ensures) (counted_made xs n table.used zero.result one.result inside place.2 table.counted),
-        (subst (λ v. ∥ Sound (set xs n v) ∥₁) (sym c.link.ensures) (sound_made xs n zero.result one.result inside place.2 table.sound leads_zero leads_one place.0), tt),
-      ),
-    )
+    let leads_one : Leads xs one.result = subst (Leads xs) (sym one.ensures) (led_leads xs c.args.one) in
+    record {
+      long = length-set xs n _ ∙ table.long;
+      counted = subst (λ v. table.used + 1 ≡ length (in_use (set xs n v))) (sym c.link.ensures) (counted_made xs n table.used zero.result one.result inside place.2 table.counted);
+      sound = subst (λ v. ∥ Sound (set xs n v) ∥₁) (sym c.link.ensures) (sound_made xs n zero.result one.result inside place.2 table.sound leads_zero leads_one place.0);
+    }
 
 pub returns-in-Found : goal.returns-in-Found
 returns-in-Found c =

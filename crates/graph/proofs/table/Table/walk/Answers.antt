@@ -17,7 +17,7 @@ loop-depth-preserved g c =
     let l = c.loop-depth in
     let address = c.args.address.now in
     let goes = c.follow-node in
-    at_next xs c.lead-node.result (g.F.Family.row address) l.depth c.in-default.field-0 l.node goes.result c.bit.result l.invariant c.in-default.is
+    at_next xs c.lead-node.result (g.F.Family.row address) l.depth c.in_default.field-0 l.node goes.result c.bit.result l.invariant c.in_default.is
     (omega (arith, g.met.F.Family.rows address, c.width-width.ensures, c.loop-depth-test.true)) c.bit.ensures goes.ensures
     (followed_is xs l.node goes.result c.bit.result table.sound goes.ensures)
 
