@@ -19,8 +19,8 @@ returns-in-Some g c =
           c.in-Some.i (omega (arith, free.1, self.buckets.long)) free.2 free.0);
     }
 
-pub returns-then-is-ok : goal.returns-then-is-ok
-returns-then-is-ok g c =
+pub returns-then-is_ok : goal.returns-then-is_ok
+returns-then-is_ok g c =
     let self = c.args.self.now in
     let d = g.S.Store.content c.put.new.self in
     let puts = c.put.ensures in
@@ -29,13 +29,13 @@ returns-then-is-ok g c =
       enters = λ fresh.
           entered_below g.C.Chooser.bucket c.args.prefix.now c.args.hop self.buckets.slots self.strays (g.S.Store.kept self.below) (g.S.Store.content self.below) fresh
           (λ z. c.if-held-limit.false (c.held.ensures fresh.sound ∙ z ∙ sym c.limit.ensures.answer))
-          c.in-default.ensures d (g.S.Store.kept c.put.new.self) c.put.result (sym c.if-is-ok.ensures.value)
+          c.in_default.ensures d (g.S.Store.kept c.put.new.self) c.put.result (sym c.if-is_ok.ensures.value)
           (subst (λ h. Puts (row_of c.args.prefix.now) h (g.S.Store.content self.below) d c.put.result) c.from.ensures (puts.puts fresh.sound.kept.below))
           puts.limits (puts.keeps fresh.sound.kept.below);
     }
 
-pub returns-in-default-find-free : goal.returns-in-default-find-free
-returns-in-default-find-free g c =
+pub returns-in_default-find_free : goal.returns-in_default-find_free
+returns-in_default-find_free g c =
     let self = c.args.self.now in
     let d = g.S.Store.content c.put.new.self in
     let puts = c.put.ensures in
@@ -44,9 +44,9 @@ returns-in-default-find-free g c =
       enters = λ fresh. absurd
           (no_room g.C.Chooser.bucket c.args.prefix.now c.args.hop self.buckets.slots self.strays (g.S.Store.kept self.below) (g.S.Store.content self.below) fresh
           (λ z. c.if-held-limit.false (c.held.ensures fresh.sound ∙ z ∙ sym c.limit.ensures.answer))
-          c.in-default.ensures d c.put.result (sym c.is-ok.ensures.value ∙ c.if-is-ok.false)
+          c.in_default.ensures d c.put.result (sym c.is_ok.ensures.value ∙ c.if-is_ok.false)
           (subst (λ h. Puts (row_of c.args.prefix.now) h (g.S.Store.content self.below) d c.put.result) c.from.ensures (puts.puts fresh.sound.kept.below))
-          self.buckets.long c.in-default-find-free.ensures);
+          self.buckets.long c.in_default-find_free.ensures);
     }
 
 pub returns : goal.returns
@@ -54,17 +54,17 @@ returns g c =
     let self = c.args.self.now in
     let d = g.S.Store.content c.put.new.self in
     let puts = c.put.ensures in
-    let free = c.in-Some-find-free.ensures in
+    let free = c.in-Some-find_free.ensures in
     record {
       limits = puts.limits;
       enters = λ fresh.
-          let more : c.saturating-add-self.result ≡ self.strays + 1 = omega (arith, c.saturating-add-self.ensures, fresh.sound.kept.strays, strays_most g.C.Chooser.bucket self.buckets.slots, self.buckets.long) in
-          put_as g.C.Chooser.bucket c.args.prefix.now c.args.hop self.buckets.slots (g.S.Store.content self.below) c.saturating-add-self.result (g.S.Store.kept c.put.new.self) d (Ok tt) _ _ c.write-2.ensures (subst
-          (λ n. PutsIn g.C.Chooser.bucket c.args.prefix.now c.args.hop self.buckets.slots (g.S.Store.content self.below) (set self.buckets.slots c.in-Some-find-free.i (Taken c.args.prefix.now c.args.hop)) n (g.S.Store.kept c.put.new.self) d (Ok tt))
+          let more : c.saturating_add-self.result ≡ self.strays + 1 = omega (arith, c.saturating_add-self.ensures, fresh.sound.kept.strays, strays_most g.C.Chooser.bucket self.buckets.slots, self.buckets.long) in
+          put_as g.C.Chooser.bucket c.args.prefix.now c.args.hop self.buckets.slots (g.S.Store.content self.below) c.saturating_add-self.result (g.S.Store.kept c.put.new.self) d (Ok tt) _ _ c.write-2.ensures (subst
+          (λ n. PutsIn g.C.Chooser.bucket c.args.prefix.now c.args.hop self.buckets.slots (g.S.Store.content self.below) (set self.buckets.slots c.in-Some-find_free.i (Taken c.args.prefix.now c.args.hop)) n (g.S.Store.kept c.put.new.self) d (Ok tt))
           (sym more)
           (entered_anywhere g.C.Chooser.bucket c.args.prefix.now c.args.hop self.buckets.slots self.strays (g.S.Store.kept self.below) (g.S.Store.content self.below) fresh
           (λ z. c.if-held-limit.false (c.held.ensures fresh.sound ∙ z ∙ sym c.limit.ensures.answer))
-          c.in-default.ensures d (g.S.Store.kept c.put.new.self) c.put.result c.in-Some-find-free.i (sym c.is-ok.ensures.value ∙ c.if-is-ok.false)
+          c.in_default.ensures d (g.S.Store.kept c.put.new.self) c.put.result c.in-Some-find_free.i (sym c.is_ok.ensures.value ∙ c.if-is_ok.false)
           (subst (λ h. Puts (row_of c.args.prefix.now) h (g.S.Store.content self.below) d c.put.result) c.from.ensures (puts.puts fresh.sound.kept.below))
           (puts.keeps fresh.sound.kept.below) self.buckets.long free.0 free.1));
     }

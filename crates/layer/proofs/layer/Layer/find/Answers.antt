@@ -11,7 +11,7 @@ returns-in-Some g c =
 
 pub returns-then-self-eq0 : goal.returns-then-self-eq0
 returns-then-self-eq0 g c =
-    record { holds = tt; exact = λ kept. sym (found_near g.C.Chooser.bucket c.args.self.now.buckets.slots c.args.prefix.now (sym kept.strays ∙ c.if-self-eq0.true) c.in-default.ensures) }
+    record { holds = tt; exact = λ kept. sym (found_near g.C.Chooser.bucket c.args.self.now.buckets.slots c.args.prefix.now (sym kept.strays ∙ c.if-self-eq0.true) c.in_default.ensures) }
 
 pub returns : goal.returns
 returns g c = record { holds = found_spot c.args.self.now.buckets.slots (row_of c.args.prefix.now) c.find.result c.args.self.now.buckets.long c.find.ensures; exact = λ _. c.find.ensures }

@@ -23,4 +23,4 @@ returns g c =
     let xs = c.args.self.now.buckets.slots in
     let four : c.loop-attempt.attempt ≡ 4 = omega (arith, c.loop-attempt-test.false, c.loop-attempt.auto.attempt-end) in
     let best = c.loop-attempt.invariant.0 ∙ ap (λ n. g.C.Chooser.bucket c.args.prefix.now (earliest_least (λ j. fill xs (g.C.Chooser.bucket c.args.prefix.now j)) n)) four in
-    subst (λ b. FreesIn xs b c.free-in.result) best c.free-in.ensures
+    subst (λ b. FreesIn xs b c.free_in.result) best c.free_in.ensures
