@@ -11,7 +11,7 @@ returns-in-End c = λ t h.
 pub loop-depth-preserved : goal.loop-depth-preserved
 loop-depth-preserved c =
     let l = c.loop-depth in
-    down_next c.args.table.now.slots c.lead-edge.result (row_of c.args.prefix.now) l.depth c.in-default.field-0 l.edge c.follow-edge.result c.bit.result l.invariant c.in-default.is
+    down_next c.args.table.now.slots c.lead-edge.result (row_of c.args.prefix.now) l.depth c.in_default.field-0 l.edge c.follow-edge.result c.bit.result l.invariant c.in_default.is
     (omega (arith, c.len-len.ensures, c.loop-depth-test.true)) c.bit.ensures c.follow-edge.ensures
 
 pub loop-depth-init : goal.loop-depth-init

@@ -24,36 +24,36 @@ returns-in-End g m c =
       path = λ sound t h. above_it xs c.args.node _ _ t c.in-End.is h;
     }
 
-pub returns-in-err-below : goal.returns-in-err-below
-returns-in-err-below g m c =
+pub returns-in_err-below : goal.returns-in_err-below
+returns-in_err-below g m c =
     let xs = c.args.table.now.slots in
-    let ys = c.prune-below.new.table.slots in
+    let ys = c.prune_below.new.table.slots in
     let row = row_of c.args.prefix.now in
     let d = c.args.depth in
     let b = c.bit-bit.result in
     let own = others (g.R.Store.content c.args.routes.now).map row in
     let less : d < length row = omega (arith, c.len.ensures, c.if-depth-len.false) in
-    let under = c.in-err-below.ensures in
-    let p = err_from_is_err_and c.from-residual.result c.from-residual.ensures.1 in
+    let under = c.in_err-below.ensures in
+    let p = err_from_is_err_and c.from_residual.result c.from_residual.ensures.1 in
     record {
       kept = under.kept;
-      path = λ sound t h. rw (p.1, p.2) (up_stopped xs ys c.args.node c.in-default.field-0 c.in-default.is t h own row d b less c.bit-bit.ensures _
+      path = λ sound t h. rw (p.1, p.2) (up_stopped xs ys c.args.node c.in_default.field-0 c.in_default.is t h own row d b less c.bit-bit.ensures _
           (under.path sound (side b t) (follows xs c.args.node c.follow-below.result t b b c.follow-below.ensures refl h)));
     }
 
 pub returns-then-ends : goal.returns-then-ends
 returns-then-ends g m c =
     let xs = c.args.table.now.slots in
-    let ys = c.prune-below.new.table.slots in
+    let ys = c.prune_below.new.table.slots in
     let row = row_of c.args.prefix.now in
     let d = c.args.depth in
     let b = c.bit-bit.result in
     let own = others (g.R.Store.content c.args.routes.now).map row in
     let less : d < length row = omega (arith, c.len.ensures, c.if-depth-len.false) in
-    let under = c.in-ok-below.ensures in
+    let under = c.in_ok-below.ensures in
     record {
       kept = under.kept;
-      path = λ sound t h. up_leaf xs ys c.args.node c.in-default.field-0 c.in-default.is t h own row d b less c.bit-bit.ensures c.in-ok-below.below c.follow-beside.result
+      path = λ sound t h. up_leaf xs ys c.args.node c.in_default.field-0 c.in_default.is t h own row d b less c.bit-bit.ensures c.in_ok-below.below c.follow-beside.result
           (under.path sound (side b t) (follows xs c.args.node c.follow-below.result t b b c.follow-below.ensures refl h))
           c.follow-beside.ensures (sym (c.ends.ensures sound less) ∙ c.if-ends.true);
     }
@@ -61,17 +61,17 @@ returns-then-ends g m c =
 pub returns-then-bit : goal.returns-then-bit
 returns-then-bit g m c =
     let xs = c.args.table.now.slots in
-    let ys = c.prune-below.new.table.slots in
+    let ys = c.prune_below.new.table.slots in
     let row = row_of c.args.prefix.now in
     let d = c.args.depth in
     let b = c.bit-bit.result in
     let own = others (g.R.Store.content c.args.routes.now).map row in
     let less : d < length row = omega (arith, c.len.ensures, c.if-depth-len.false) in
-    let under = c.in-ok-below.ensures in
+    let under = c.in_ok-below.ensures in
     let zs = c.fork.new.self.slots in
     record {
       kept = kept_then xs ys zs under.kept c.fork.ensures.kept;
-      path = λ sound t h. up_one xs ys c.args.node c.in-default.field-0 c.in-default.is t h own row d b less c.bit-bit.ensures c.in-ok-below.below c.follow-beside.result
+      path = λ sound t h. up_one xs ys c.args.node c.in_default.field-0 c.in_default.is t h own row d b less c.bit-bit.ensures c.in_ok-below.below c.follow-beside.result
           (under.path sound (side b t) (follows xs c.args.node c.follow-below.result t b b c.follow-below.ensures refl h))
           c.follow-beside.ensures under.kept zs c.fork.ensures.kept c.fork.result (sym (c.ends.ensures sound less) ∙ c.if-ends.false) c.if-bit.true c.fork.ensures.forked;
     }
@@ -79,17 +79,17 @@ returns-then-bit g m c =
 pub returns-else-bit : goal.returns-else-bit
 returns-else-bit g m c =
     let xs = c.args.table.now.slots in
-    let ys = c.prune-below.new.table.slots in
+    let ys = c.prune_below.new.table.slots in
     let row = row_of c.args.prefix.now in
     let d = c.args.depth in
     let b = c.bit-bit.result in
     let own = others (g.R.Store.content c.args.routes.now).map row in
     let less : d < length row = omega (arith, c.len.ensures, c.if-depth-len.false) in
-    let under = c.in-ok-below.ensures in
+    let under = c.in_ok-below.ensures in
     let zs = c.fork-else-bit.new.self.slots in
     record {
       kept = kept_then xs ys zs under.kept c.fork-else-bit.ensures.kept;
-      path = λ sound t h. up_zero xs ys c.args.node c.in-default.field-0 c.in-default.is t h own row d b less c.bit-bit.ensures c.in-ok-below.below c.follow-beside.result
+      path = λ sound t h. up_zero xs ys c.args.node c.in_default.field-0 c.in_default.is t h own row d b less c.bit-bit.ensures c.in_ok-below.below c.follow-beside.result
           (under.path sound (side b t) (follows xs c.args.node c.follow-below.result t b b c.follow-below.ensures refl h))
           c.follow-beside.ensures under.kept zs c.fork-else-bit.ensures.kept c.fork-else-bit.result (sym (c.ends.ensures sound less) ∙ c.if-ends.false) c.if-bit.false c.fork-else-bit.ensures.forked;
     }
