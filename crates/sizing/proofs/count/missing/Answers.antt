@@ -9,7 +9,7 @@ loop-depth-init c = missing_start c.args.table.now.slots c.args.start (row_of c.
 pub loop-depth-preserved : goal.loop-depth-preserved
 loop-depth-preserved c =
     let l = c.loop-depth in
-    missing_next c.args.table.now.slots c.args.start (row_of c.args.prefix.now) l.depth c.in-default.field-0 l.node c.follow-node.result c.bit.result l.invariant c.in-default.is (omega arith) c.bit.ensures c.follow-node.ensures
+    missing_next c.args.table.now.slots c.args.start (row_of c.args.prefix.now) l.depth c.in_default.field-0 l.node c.follow-node.result c.bit.result l.invariant c.in_default.is (omega arith) c.bit.ensures c.follow-node.ensures
 
 pub returns-in-End : goal.returns-in-End
 returns-in-End c = λ t h.

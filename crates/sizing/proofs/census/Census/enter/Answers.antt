@@ -11,14 +11,14 @@ returns-in-Ok c = λ rs h counts.
     let p = row_of c.args.prefix.now in
     let made = c.in-Ok.ensures.grown (pushed rs) (shapes (pushed rs)) (taken counts.graph) counts.holds in
     let ys = c.grow.new.self.slots in
-    let zs = c.keep-only.new.self.slots in
+    let zs = c.keep_only.new.self.slots in
     let more = c.missing-more.ensures (pushed rs) counts.graph in (
       made.room,
       record {
-        graph = still_graph ys zs c.in-Ok.start (grown p (pushed rs)) made.unfolds c.keep-only.ensures;
-        holds = still_holds ys zs c.in-Ok.start (grown p (pushed rs)) made.unfolds c.keep-only.ensures;
-        routes = omega (arith, counts.routes, c.saturating-add-self.ensures);
-        forks = omega (arith, counts.forks, c.saturating-add-self-in-Ok.ensures, more, shapes_grown p (pushed rs));
+        graph = still_graph ys zs c.in-Ok.start (grown p (pushed rs)) made.unfolds c.keep_only.ensures;
+        holds = still_holds ys zs c.in-Ok.start (grown p (pushed rs)) made.unfolds c.keep_only.ensures;
+        routes = omega (arith, counts.routes, c.saturating_add-self.ensures);
+        forks = omega (arith, counts.forks, c.saturating_add-self-in-Ok.ensures, more, shapes_grown p (pushed rs));
       },
     )
 
@@ -27,14 +27,14 @@ returns-in-Err c = λ rs h counts.
     let grow = c.in-Err.ensures in
     let full = grow.grown (pushed rs) (shapes (pushed rs)) (taken counts.graph) counts.holds in
     let ys = c.grow.new.self.slots in
-    let zs = c.keep-only-in-Err.new.self.slots in
+    let zs = c.keep_only-in-Err.new.self.slots in
     let start = c.args.self.now.start in
     let stays = grow.kept.shapes start (pushed rs) counts.graph in (
       full.why_full,
       full.many,
       record {
-        graph = still_graph ys zs start (pushed rs) stays c.keep-only-in-Err.ensures;
-        holds = still_holds ys zs start (pushed rs) stays c.keep-only-in-Err.ensures;
+        graph = still_graph ys zs start (pushed rs) stays c.keep_only-in-Err.ensures;
+        holds = still_holds ys zs start (pushed rs) stays c.keep_only-in-Err.ensures;
         routes = counts.routes;
         forks = counts.forks;
       },
