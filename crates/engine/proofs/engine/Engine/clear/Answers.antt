@@ -11,25 +11,25 @@ use Rattle.engine.proofs.engine.Engine.clear.Goals as goal
 
 pub returns-then-spot-len : goal.returns-then-spot-len
 returns-then-spot-len g c = record {
-  table = c.clear-at.ensures.table;
-  start = c.clear-at.ensures.start;
+  table = c.clear_at.ensures.table;
+  start = c.clear_at.ensures.start;
   clears = λ given rs w stands leads old is.
       let e = c.args.self.now in
       let p = row_of c.args.at.now in
       let spot = c.descend-spot.ensures (pushed (struck rs p)) (taken leads) in
       let node = spot_node e.table.slots (struck rs p) p c.descend-spot.result spot (c.if-spot-len.true ∙ c.len.ensures) in
       let edge = node_edge e.table.slots (pushed (struck rs p)) p c.descend-spot.result spot node in
-      c.clear-at.ensures.clears given rs w stands node (subst (λ t. Unfolds e.table.slots c.descend-spot.result.edge (shape_at t p)) (strikes_node rs p stands node).tree edge) is;
+      c.clear_at.ensures.clears given rs w stands node (subst (λ t. Unfolds e.table.slots c.descend-spot.result.edge (shape_at t p)) (strikes_node rs p stands node).tree edge) is;
 }
 
 pub returns : goal.returns
 returns g c = record {
-  table = c.clear-below.ensures.table;
-  start = c.clear-below.ensures.start;
+  table = c.clear_below.ensures.table;
+  start = c.clear_below.ensures.start;
   clears = λ given rs w stands leads old is.
       let e = c.args.self.now in
       let p = row_of c.args.at.now in
       let spot = c.descend-spot.ensures (pushed (struck rs p)) (taken leads) in
       let (is_IsLeaf, over) = spot_leaf e.table.slots (struck rs p) p c.descend-spot.result spot (λ k. c.if-spot-len.false (k ∙ sym c.len.ensures)) in
-      c.clear-below.ensures.clears given rs w stands (subst (Leaf (struck rs p)) (sym c.front-leaf.ensures) is_IsLeaf) (subst (λ q. above q p ≡ true) (sym c.front-leaf.ensures) over) old is;
+      c.clear_below.ensures.clears given rs w stands (subst (Leaf (struck rs p)) (sym c.front-leaf.ensures) is_IsLeaf) (subst (λ q. above q p ≡ true) (sym c.front-leaf.ensures) over) old is;
 }

@@ -38,7 +38,7 @@ returns-then-spot-len g c = λ given rs ready new.
     let room : eqb (length rs) given.route_limit ≡ false = grind (arith, nat_tests) in
     let spot = c.descend-spot.ensures (pushed rs) (taken ready.serves.starts) in
     let node = spot_node e.table.slots rs p c.descend-spot.result spot (c.if-spot-len.true ∙ c.len.ensures) in
-    c.enter-at.ensures given rs ready room node (node_edge e.table.slots (pushed rs) p c.descend-spot.result spot node)
+    c.enter_at.ensures given rs ready room node (node_edge e.table.slots (pushed rs) p c.descend-spot.result spot node)
 
 pub returns : goal.returns
 returns g c = λ given rs ready new.
@@ -53,4 +53,4 @@ returns g c = λ given rs ready new.
     let room : eqb (length rs) given.route_limit ≡ false = grind (arith, nat_tests) in
     let spot = c.descend-spot.ensures (pushed rs) (taken ready.serves.starts) in
     let (is_IsLeaf, over) = spot_leaf e.table.slots rs p c.descend-spot.result spot (λ k. c.if-spot-len.false (k ∙ sym c.len.ensures)) in
-    c.enter-below.ensures given rs ready room (subst (Leaf rs) (sym c.front-leaf.ensures) is_IsLeaf) (subst (λ q. above q p ≡ true) (sym c.front-leaf.ensures) over)
+    c.enter_below.ensures given rs ready room (subst (Leaf rs) (sym c.front-leaf.ensures) is_IsLeaf) (subst (λ q. above q p ≡ true) (sym c.front-leaf.ensures) over)

@@ -20,14 +20,14 @@ returns-in-Ok g c =
       start = refl;
       folds = λ sound t old held.
           drew table.slots after.slots c.args.self.now.start t (pruned (others m p) t p) table.sound old held path.kept
-          c.in-Ok.start c.count-before.result c.count.result _ (path.pruned sound t (shapes t) (taken old) held) c.count-before.ensures.used c.count.ensures.used c.saturating-sub-made.ensures;
+          c.in-Ok.start c.count-before.result c.count.result _ (path.pruned sound t (shapes t) (taken old) held) c.count-before.ensures.used c.count.ensures.used c.saturating_sub-made.ensures;
     }
 
 pub returns-in-Err : goal.returns-in-Err
 returns-in-Err g c =
     let table = c.args.self.now.table in
     let after = c.prune.new.table in
-    let last = c.keep-only.new.self in
+    let last = c.keep_only.new.self in
     let path = c.in-Err.ensures in
     let p = row_of c.args.at.now in
     let m = (g.R.Store.content c.args.self.now.routes).map in
@@ -37,5 +37,5 @@ returns-in-Err g c =
       start = refl;
       folds = λ sound t old held.
           full table.slots after.slots c.args.self.now.start t (pruned (others m p) t p) table.sound old held path.kept
-          last.slots c.in-Err.refusal after.sound (path.pruned sound t (shapes t) (taken old) held) c.keep-only.ensures (last.long ∙ sym table.long);
+          last.slots c.in-Err.refusal after.sound (path.pruned sound t (shapes t) (taken old) held) c.keep_only.ensures (last.long ∙ sym table.long);
     }

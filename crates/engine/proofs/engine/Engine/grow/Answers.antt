@@ -16,14 +16,14 @@ returns-in-Ok g c =
       start = refl;
       grows = λ t old held.
           drew table.slots after.slots c.args.self.now.start t (grown (row_of c.args.at.now) t) table.sound old held path.kept
-          c.in-Ok.start c.count-before.result c.count.result _ (path.grown t (shapes t) (taken old) held) c.count-before.ensures.used c.count.ensures.used c.saturating-sub-made.ensures;
+          c.in-Ok.start c.count-before.result c.count.result _ (path.grown t (shapes t) (taken old) held) c.count-before.ensures.used c.count.ensures.used c.saturating_sub-made.ensures;
     }
 
 pub returns-in-Err : goal.returns-in-Err
 returns-in-Err g c =
     let table = c.args.self.now.table in
     let after = c.grow.new.self in
-    let last = c.keep-only.new.self in
+    let last = c.keep_only.new.self in
     let path = c.in-Err.ensures in
     record {
       routes = refl;
@@ -31,5 +31,5 @@ returns-in-Err g c =
       start = refl;
       grows = λ t old held.
           full table.slots after.slots c.args.self.now.start t (grown (row_of c.args.at.now) t) table.sound old held path.kept
-          last.slots c.in-Err.refusal after.sound (path.grown t (shapes t) (taken old) held) c.keep-only.ensures (last.long ∙ sym table.long);
+          last.slots c.in-Err.refusal after.sound (path.grown t (shapes t) (taken old) held) c.keep_only.ensures (last.long ∙ sym table.long);
     }

@@ -6,5 +6,5 @@ pub returns : goal.returns
 returns g c = record {
   routes = refl;
   leaves = refl;
-  moves = moves c.args.self.now.table.slots c.keep-only.new.self.slots c.args.start c.keep-only.ensures;
+  moves = moves c.args.self.now.table.slots c.keep_only.new.self.slots c.args.start c.keep_only.ensures;
 }
