@@ -3,5 +3,5 @@ use Rattle.command.proofs.Cutting.{more_parts}
 use Rattle.command.proofs.announce.Goals as goal
 
 -- a field too many
-pub returns-then-is-some : goal.returns-then-is-some
-returns-then-is-some c place = let more = more_parts c.args.line.now c.part-hop.result.next (sym c.if-is-some.ensures) in let behind = more.2 in search rules
+pub returns-then-is_some : goal.returns-then-is_some
+returns-then-is_some c place = let more = more_parts c.args.line.now c.part-hop.result.next (sym c.if-is_some.ensures) in let behind = more.2 in search rules

@@ -4,5 +4,5 @@ use Rattle.command.proofs.Cutting.{more_parts}
 use Rattle.command.proofs.count.Goals as goal
 
 -- a field too many
-pub returns-then-is-some : goal.returns-then-is-some
-returns-then-is-some c line = ap counted (more_parts line c.args.from (sym c.if-is-some.ensures)).2
+pub returns-then-is_some : goal.returns-then-is_some
+returns-then-is_some c line = ap counted (more_parts line c.args.from (sym c.if-is_some.ensures)).2
