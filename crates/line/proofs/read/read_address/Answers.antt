@@ -6,4 +6,4 @@ pub returns-in-Some : goal.returns-in-Some
 returns-in-Some g c =
     let most = g.met.F.Family.most in
     let digits : 4 * length c.args.field.bytes.now ≡ g.F.Family.wide = omega arith in
-    address_read g.F.Family.wide c.args.field.bytes.now (c.in-Some.first, c.in-Some.second) (g.F.Family.row c.from-halves.result) most digits c.in-Some.ensures c.from-halves.ensures
+    address_read g.F.Family.wide c.args.field.bytes.now (c.in-Some.first, c.in-Some.second) (g.F.Family.row c.from_halves.result) most digits c.in-Some.ensures c.from_halves.ensures

@@ -9,8 +9,8 @@ use Rattle.line.proofs.tell.answer_line.Goals as goal
 
 pub returns : goal.returns
 returns g c = record {
-  row = row_kept (shown c.reply-reply.result) c.args.row.now c.copy-to.new.row c.copy-to.result c.if-row-lt-LEAST-ROW.false c.copy-to.ensures.number c.copy-to.ensures.bytes;
-  short = λ h. absurd (omega (arith, h, c.if-row-lt-LEAST-ROW.false));
+  row = row_kept (shown c.reply-reply.result) c.args.row.now c.copy_to.new.row c.copy_to.result c.if-row-lt-LEAST_ROW.false c.copy_to.ensures.number c.copy_to.ensures.bytes;
+  short = λ h. absurd (omega (arith, h, c.if-row-lt-LEAST_ROW.false));
   ill = c.tell.ensures.ill;
   told = λ h ls w room t.
       let both = c.tell.ensures.told h ls w t in
@@ -18,7 +18,7 @@ returns g c = record {
       let small : length (written (answer_of c.tell.result)) ≤ 40 = written_short (answer_of c.tell.result) c.reply-reply.ensures.few (subst (λ (x : Answer). Counted x) both.1 counted) in
       let says : written (answer_of c.tell.result) ≡ written (line_turn h (after_calls h [] (line_calls h.width ls)) c.args.line.now).1 = ap written (sym both.1) in (
         both.0,
-        replied (written (line_turn h (after_calls h [] (line_calls h.width ls)) c.args.line.now).1) (shown c.reply-reply.result) c.args.row.now c.copy-to.new.row c.copy-to.result
-            (c.reply-reply.ensures.line ∙ says) (subst (λ (z : List ℕ). length z ≤ 40) says small) room c.copy-to.ensures.number c.copy-to.ensures.bytes,
+        replied (written (line_turn h (after_calls h [] (line_calls h.width ls)) c.args.line.now).1) (shown c.reply-reply.result) c.args.row.now c.copy_to.new.row c.copy_to.result
+            (c.reply-reply.ensures.line ∙ says) (subst (λ (z : List ℕ). length z ≤ 40) says small) room c.copy_to.ensures.number c.copy_to.ensures.bytes,
       );
 }

@@ -17,8 +17,8 @@ full bytes len b long most h =
     let fits : length (take len bytes) ≡ 81 = length-take-le len bytes (omega arith) ∙ omega arith in
     sym (take_at (take len bytes) (b ∷ []) 81 fits)
 
-pub returns-then-self-lt-MOST-HELD : goal.returns-then-self-lt-MOST-HELD
-returns-then-self-lt-MOST-HELD c = stored c.args.self.now.bytes c.args.self.now.len c.args.b c.args.self.now.long c.if-self-lt-MOST-HELD.true
+pub returns-then-self-lt-MOST_HELD : goal.returns-then-self-lt-MOST_HELD
+returns-then-self-lt-MOST_HELD c = stored c.args.self.now.bytes c.args.self.now.len c.args.b c.args.self.now.long c.if-self-lt-MOST_HELD.true
 
-pub returns-else-self-lt-MOST-HELD : goal.returns-else-self-lt-MOST-HELD
-returns-else-self-lt-MOST-HELD c = full c.args.self.now.bytes c.args.self.now.len c.args.b c.args.self.now.long c.args.self.now.short c.if-self-lt-MOST-HELD.false
+pub returns-else-self-lt-MOST_HELD : goal.returns-else-self-lt-MOST_HELD
+returns-else-self-lt-MOST_HELD c = full c.args.self.now.bytes c.args.self.now.len c.args.b c.args.self.now.long c.args.self.now.short c.if-self-lt-MOST_HELD.false
