@@ -10,16 +10,16 @@ none (b ∷ bs) e = absurd (omega arith)
 
 pub returns : goal.returns
 returns g c = record {
-  row = (c.if-row-lt-ROOM.false, c.end-line.ensures.within, c.end-line.ensures.rest);
+  row = (c.if-row-lt-ROOM.false, c.end_line.ensures.within, c.end_line.ensures.rest);
   short = λ h. absurd (omega (arith, h, c.if-row-lt-ROOM.false));
   over = λ h input output w k.
-      over_line h g.R.Store.kept g.R.Store.content g.L.Store.kept g.L.Store.content input output c.args.self.now c.end-line.new.self (take c.end-line.result c.end-line.new.row)
-      (λ e. absurd (true≢false (sym (eq-eqb (length c.bytes.result.now) 0 (ap length (c.bytes.ensures ∙ e))) ∙ sym c.if-is-empty.ensures))) k (c.end-line.ensures.heard h input output w c.if-row-lt-ROOM.false k);
+      over_line h g.R.Store.kept g.R.Store.content g.L.Store.kept g.L.Store.content input output c.args.self.now c.end_line.new.self (take c.end_line.result c.end_line.new.row)
+      (λ e. absurd (true≢false (sym (eq-eqb (length c.bytes.result.now) 0 (ap length (c.bytes.ensures ∙ e))) ∙ sym c.if-is_empty.ensures))) k (c.end_line.ensures.heard h input output w c.if-row-lt-ROOM.false k);
 }
 
-pub returns-then-is-empty : goal.returns-then-is-empty
-returns-then-is-empty g c = record {
+pub returns-then-is_empty : goal.returns-then-is_empty
+returns-then-is_empty g c = record {
   row = (c.if-row-lt-ROOM.false, omega arith, refl);
   short = λ h. refl;
-  over = λ h input output w k. over_ended h g.R.Store.kept g.R.Store.content g.L.Store.kept g.L.Store.content input output c.args.self.now (sym c.bytes.ensures ∙ none c.bytes.result.now (eqb-true (length c.bytes.result.now) 0 (sym c.if-is-empty.ensures))) k;
+  over = λ h input output w k. over_ended h g.R.Store.kept g.R.Store.content g.L.Store.kept g.L.Store.content input output c.args.self.now (sym c.bytes.ensures ∙ none c.bytes.result.now (eqb-true (length c.bytes.result.now) 0 (sym c.if-is_empty.ensures))) k;
 }
