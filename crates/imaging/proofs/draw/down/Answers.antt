@@ -9,8 +9,8 @@ loop-left-init c = going_start c.args.table.now.slots c.bits-left.result c.args.
 pub loop-left-preserved : goal.loop-left-preserved
 loop-left-preserved c =
     let l = c.loop-left in
-    going_on c.args.table.now.slots c.bits-left.result c.args.slot c.args.edge c.in-default.field-0 l.left l.node c.follow-node.result (eqb (c.args.edge / 2 ^ (l.left - 1) % 2) 1)
-    c.args.table.now.sound c.loop-left-test.true c.in-default.is refl c.follow-node.ensures l.invariant
+    going_on c.args.table.now.slots c.bits-left.result c.args.slot c.args.edge c.in_default.field-0 l.left l.node c.follow-node.result (eqb (c.args.edge / 2 ^ (l.left - 1) % 2) 1)
+    c.args.table.now.sound c.loop-left-test.true c.in_default.is refl c.follow-node.ensures l.invariant
 
 pub returns-after-loop-left : goal.returns-after-loop-left
 returns-after-loop-left c =

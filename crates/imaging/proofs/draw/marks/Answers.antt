@@ -3,13 +3,13 @@ use Rattle.std.proofs.lemmas.Nat.{one_shl, pow_pos}
 use Rattle.image.proofs.Marks.{with_mark}
 use Rattle.imaging.proofs.Marking.{marking_start, turned, unturned, marking_turn, marking_fits, marking_all}
 use Rattle.imaging.proofs.draw.marks.Goals as goal
-use Rattle.imaging.proofs.draw.marks.Goals.{then-edge-left-eq0, else-edge-left-eq0, then_one, else-one}
+use Rattle.imaging.proofs.draw.marks.Goals.{then-edge-left-eq0, else-edge-left-eq0, then-one, else-one}
 
 pub loop-edge-init : goal.loop-edge-init
 loop-edge-init c = marking_start c.args.table.now.slots c.args.stride.bits c.args.slot
 
-pub overflow-add-marks : goal.overflow-add-marks
-overflow-add-marks c =
+pub overflow_add-marks : goal.overflow_add-marks
+overflow_add-marks c =
     let l = c.loop-edge in
     let less : l.edge < 2 ^ c.args.stride.bits = omega (arith, c.loop-edge-test.true, c.edges-edge-end.ensures.is) in
     omega (arith, marking_fits c.args.table.now.slots c.args.stride.bits c.args.slot l.edge l.marks l.one less c.args.stride.most l.invariant, one_shl l.edge 64 (omega (arith, c.loop-edge-test.true, c.edges-edge-end.ensures.most)))
@@ -33,7 +33,7 @@ loop-edge-preserved c =
       | else-edge-left-eq0 t ↦ unturned xs s v l.edge l.marks n d w l.one least less size c.down-left.ensures l.invariant b t.if-edge-left-eq0.false t.one-is
     ] in
     let marks : c.if-one.marks ≡ with_mark l.marks l.edge b = elim c.if-one.branch [
-      | then_one t ↦ t.marks-is ∙ ap (λ k. l.marks + k) power ∙ sym (ap (with_mark l.marks l.edge) t.if-one.true)
+      | then-one t ↦ t.marks-is ∙ ap (λ k. l.marks + k) power ∙ sym (ap (with_mark l.marks l.edge) t.if-one.true)
       | else-one t ↦ t.marks-is ∙ (omega arith) ∙ sym (ap (with_mark l.marks l.edge) t.if-one.false)
     ] in
     marking_turn xs s v l.edge l.marks n d w l.one least less size c.down-left.ensures l.invariant b c.if-one.marks turn marks
