@@ -4,7 +4,7 @@
 ghost use Rattle.std.specs.Prelude.{◌<◌};
 ghost use Rattle.bits.specs.Rows.{word};
 ghost use Rattle.bits.proofs.Words.{length_word};
-ghost use Rattle.std.proofs.Common.{rules, arith};
+ghost use Rattle.std.proofs.Common.{rules};
 
 use net::{Family, Prefix, halves};
 
@@ -21,9 +21,9 @@ impl Family for Narrow {
 
     ghost wide = { 5 };
 
-    ghost least = { first_of (Prim.search rules, Prim.grind (arith, Self.row.coded.inj)) };
+    ghost least = { Prim.search rules };
 
-    ghost most = { first_of (Prim.search rules, Prim.grind (arith, Self.row.coded.inj)) };
+    ghost most = { Prim.search rules };
 
     ghost rows = { λ a. length_word 5 a.number };
 
