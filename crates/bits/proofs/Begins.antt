@@ -1,5 +1,5 @@
 -- Beginnings of rows. Assumes nothing.
-use Rattle.std.proofs.Common.{◌≡◌, ℕ, zero, suc, ◌+◌, ◌≤◌, true, false, [], ◌∷◌, ◌++◌, length, take, drop, refl, arith}
+use Rattle.std.proofs.Common.{◌≡◌, ℕ, zero, suc, ◌≤◌, true, false, [], ◌∷◌, ◌++◌, length, take, drop, refl, arith}
 use Rattle.bits.specs.Rows.{Bits, same, begins}
 
 pub begins_self : (p : Bits) → begins p p ≡ true

@@ -1,11 +1,10 @@
 -- The bits of a number, and numbers from their bits. Assumes nothing.
-use Rattle.std.proofs.Common.{◌≡◌, ℕ, zero, suc, ◌+◌, ◌-◌, ◌*◌, ◌/◌, ◌%◌, ◌^◌, ◌<◌, ◌≤◌, max, Bool, true, false, not, ◌||◌, eqb, List, [], ◌∷◌, ◌++◌, length, get_or, take, drop, replicate, sym, refl, ap, ◌∙◌, subst, add-zero, add-suc, pow-suc, div-one, add-one, one-add, arith}
+use Rattle.std.proofs.Common.{◌≡◌, ℕ, zero, suc, ◌+◌, ◌-◌, ◌*◌, ◌/◌, ◌%◌, ◌^◌, ◌<◌, ◌≤◌, max, true, false, eqb, [], ◌∷◌, ◌++◌, length, get_or, take, drop, replicate, sym, refl, ap, ◌∙◌, subst, add-zero, add-suc, pow-suc, div-one, add-one, one-add, arith}
 use lib.Bits.{bit_or, or_step, or_zero_r, shifted_half, shifted_even}
-use Rattle.std.proofs.lemmas.List.{append-nil, append_assoc, length_push, length-append, take_at, drop_at, get_or_at, length-take-le, take_all, same_from_push, replicate_more}
+use Rattle.std.proofs.lemmas.List.{append-nil, append_assoc, length_push, take_at, drop_at, get_or_at, length-take-le, take_all, same_from_push, replicate_more}
 use Rattle.std.proofs.lemmas.Bool.Decides.{nat_tests}
 use Rattle.std.proofs.lemmas.Nat.{shr-shr, shr_split, shr_below, shl-shr, shl_below, or_lt, pow_pos}
-use Rattle.bits.specs.Lists.{any}
-use Rattle.bits.specs.Rows.{Bits, any_one, word, padded}
+use Rattle.bits.specs.Rows.{word, padded}
 
 pub length_word : (w n : ℕ) → length (word w n) ≡ w
 unfolding word

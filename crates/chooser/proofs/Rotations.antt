@@ -1,5 +1,5 @@
 -- A rotation of 64 bits as a sum, and a product of what is reduced. Assumes nothing.
-use Rattle.std.proofs.Common.{◌≡◌, ℕ, zero, ◌+◌, ◌-◌, ◌*◌, ◌/◌, ◌%◌, ◌^◌, ◌<◌, sym, refl, ap, ◌∙◌, inl, inr, add-zero, mod-eq_of_lt, mul_assoc, add-mul, mul-one, div-one, arith}
+use Rattle.std.proofs.Common.{◌≡◌, ℕ, ◌+◌, ◌-◌, ◌*◌, ◌/◌, ◌%◌, ◌^◌, ◌<◌, sym, refl, ap, ◌∙◌, inl, inr, add-zero, mod-eq_of_lt, mul_assoc, add-mul, mul-one, div-one, arith}
 use native.Mathlib.Nat.{mod-add-div, mul-mod_left, add-mul-mod_self_left}
 use lib.Bits.{bit_or, or_shifted, or_self}
 use Rattle.std.proofs.lemmas.Nat.{mod-pow-add, shl-shr, shr_below}

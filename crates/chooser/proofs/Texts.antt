@@ -1,5 +1,5 @@
 -- The bytes of a number, as the library writes them. Assumes nothing.
-use Rattle.std.proofs.Common.{◌≡◌, ℕ, ◌/◌, ◌%◌, List, [], ◌∷◌, ◌++◌, get_or, refl, ap, div-one}
+use Rattle.std.proofs.Common.{◌≡◌, ℕ, ◌/◌, ◌%◌, List, [], ◌∷◌, get_or, refl, div-one}
 use Rattle.chooser.specs.Fnv.{bytes_of}
 
 pub bytes_are : (n : ℕ)

@@ -1,9 +1,9 @@
 -- The parts of a line, cut off one after the other. Assumes nothing.
-use Rattle.std.proofs.Common.{◌≡◌, ℕ, ◌+◌, ◌-◌, ◌<◌, ◌≤◌, true, List, [], ◌∷◌, length, take, drop, is_some, Some, None, Option, sym, refl, ap, ◌∙◌, subst, arith, drop-drop}
+use Rattle.std.proofs.Common.{◌≡◌, ℕ, ◌+◌, ◌-◌, ◌<◌, ◌≤◌, true, List, [], ◌∷◌, length, take, drop, is_some, Some, None, Option, sym, ap, ◌∙◌, subst, arith, drop-drop}
 use Rattle.std.proofs.lemmas.List.{length-take, length-drop, take_rest}
-use Rattle.text.specs.Fields.{first_of, parted, fields}
+use Rattle.text.specs.Fields.{first_of, fields}
 use Rattle.text.proofs.Marks.{parted_at, parted_none, some_part}
-use Rattle.command.specs.Command.{Part, placed, most_bytes, Parts, Place, parts_from}
+use Rattle.command.specs.Command.{Part, placed, most_bytes, Parts, parts_from}
 
 -- what a line has from place k on
 abbrev rest : List ℕ → ℕ → List ℕ

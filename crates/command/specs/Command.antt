@@ -13,7 +13,7 @@
 --   parts_from bs o    the parts of the line bs from a place on, or none
 --   Place bs o         the place lies in the line bs, which is no longer than a command may be
 --   Parts bs k p o     p is the part that begins at place k, and o the place of the next one, if there is one
-use Rattle.std.specs.Prelude.{◌≡◌, ℕ, ◌+◌, ◌≤◌, Bool, true, false, cond, List, [], ◌∷◌, length, drop, Some, None, Option, MatchOption, ◌==◌, nat_lt}
+use Rattle.std.specs.Prelude.{◌≡◌, ℕ, ◌+◌, ◌≤◌, cond, List, [], ◌∷◌, length, drop, Some, None, Option, MatchOption, ◌==◌, nat_lt}
 use Rattle.text.specs.Fields.{fields}
 use Rattle.command.specs.declared.Field.{Field}
 use Rattle.command.specs.declared.Command as code

@@ -1,8 +1,7 @@
 -- Drawing the graph anew, by what growing, pruning and freeing do to the slots. Assumes nothing.
-use Rattle.std.proofs.Common.{◌≡◌, ℕ, ◌+◌, ◌-◌, ◌≤◌, List, ◌++◌, length, refl, arith}
-use Rattle.bits.specs.Lists.{different}
+use Rattle.std.proofs.Common.{◌≡◌, ℕ, ◌-◌, List, length, refl, arith}
 use Rattle.refusal.specs.declared.Refusal.{Refusal}
-use Rattle.tree.specs.Tree.{Shape, alike, shapes}
+use Rattle.tree.specs.Tree.{Shape, shapes}
 use Rattle.tree.proofs.Shapes.{alike_equality}
 use Rattle.bits.proofs.Sets.{different_append}
 use Rattle.graph.specs.Slots.{Unfolds, Sound, in_use}
@@ -16,7 +15,6 @@ use Rattle.graph.proofs.View.{number}
 use Rattle.graph.proofs.Growing.{taken}
 use Rattle.graph.proofs.Back.{holds, back}
 use Rattle.engine.specs.Draws.{Drew, Full, Moves}
-use Rattle.engine.specs.declared.draw.Drawn.{Drawn}
 
 -- xs before, ys with the new path, zs at last; t the old tree, u the new one
 module _ (xs ys : List Vertex) (start : Edge) (t u : Shape) (sound : ∥ Sound xs ∥₁) (old : Unfolds xs start t) (held : Holds xs (shapes t)) (kept : Kept xs ys) where

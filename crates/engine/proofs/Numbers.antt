@@ -1,15 +1,15 @@
 -- The number that a store holds is that of the rows of its map. Assumes nothing.
-use Rattle.std.proofs.Common.{◌≡◌, ℕ, true, List, map, length, is_some, sym, ap, ◌∙◌}
+use Rattle.std.proofs.Common.{◌≡◌, ℕ, List, map, length, is_some, sym, ap, ◌∙◌}
 use mathlib.Core.Logic.{∥∥₁_elim}
 use mathlib.Core.List.{Nodup}
 use native.Mathlib.Nat.{ℕ_set}
 use lib.ListN.{length-map}
-use Rattle.bits.specs.Lists.{any, different}
+use Rattle.bits.specs.Lists.{any}
 use Rattle.bits.specs.Rows.{Bits, same}
-use Rattle.bits.proofs.Sets.{NoRepeats, Within, different_by_members, different_no_repeats}
+use Rattle.bits.proofs.Sets.{NoRepeats, different_by_members, different_no_repeats}
 use Rattle.bits.proofs.Each.{no_repeats}
 use Rattle.bits.proofs.Members.{same_equality}
-use Rattle.store.specs.Content.{Content, Map, Listed, Counted, Sound, present}
+use Rattle.store.specs.Content.{Content, Map, Counted, Sound, present}
 use Rattle.tree.specs.Tree.{Routes, matched}
 use Rattle.tree.specs.LedgerLaws.{Once}
 use Rattle.tree.specs.StoreLaws.{hop_at, leaf_entry}

@@ -1,9 +1,9 @@
 -- One call more keeps the law over runs, and a list of turns is gone through one by one. Assumes nothing.
-use Rattle.std.proofs.Common.{◌≡◌, ℕ, zero, suc, ◌+◌, ◌<◌, ◌≤◌, List, [], ◌∷◌, ◌++◌, map, length, get_or, take, set, sym, refl, ap, ◌∙◌, subst, ap₂, arith, take_all}
+use Rattle.std.proofs.Common.{◌≡◌, ℕ, zero, suc, ◌<◌, ◌≤◌, List, [], ◌∷◌, ◌++◌, length, get_or, take, set, sym, refl, ap, subst, arith, take_all}
 use lib.ListN.{length-map}
 use Rattle.bits.specs.Rows.{Bits}
 use Rattle.tree.specs.Tree.{Routes}
-use Rattle.tree.specs.Graph.{Graph, Closed}
+use Rattle.tree.specs.Graph.{Closed}
 use Rattle.tree.specs.Ledger as l
 use Rattle.tree.specs.Law.{State, Law}
 use Rattle.tree.proofs.Runs.{after_join, law_starts, law_steps}

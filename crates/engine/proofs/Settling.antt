@@ -1,10 +1,8 @@
 -- How a change settles, by its checks. Assumes nothing.
-use Rattle.std.proofs.Common.{◌≡◌, ℕ, suc, ◌+◌, ◌<◌, ◌≤◌, Bool, true, false, cond, not, ◌&&◌, ◌||◌, eqb, ltb, List, [], ◌∷◌, ◌++◌, length, take, drop, is_some, Some, None, Ok, Err, Option, Result, sym, refl, ap, ◌∙◌, subst, inl, inr, arith}
-use mathlib.Core.Path.{fun_ext}
+use Rattle.std.proofs.Common.{◌≡◌, ℕ, ◌+◌, ◌<◌, ◌≤◌, Bool, true, false, cond, not, ◌&&◌, eqb, ltb, List, [], ◌∷◌, ◌++◌, length, take, drop, is_some, Some, None, Ok, Err, Option, Result, sym, refl, ap, ◌∙◌, subst, arith}
 use Rattle.std.proofs.lemmas.Bool.{lt-ltb, le-ltb}
 use Rattle.bits.specs.Lists.{different}
 use Rattle.bits.specs.Rows.{Bits, same, any_one}
-use Rattle.bits.proofs.Members.{same_swap}
 use Rattle.net.specs.Prefix.{refusal_of}
 use Rattle.refusal.specs.declared.Refusal.{Refusal}
 use Rattle.refusal.specs.declared.Refusal.TheVariants.{Length, HostBits, Hop, Unknown, RoutesFull, LeavesFull, VerticesFull}
@@ -14,13 +12,10 @@ use Rattle.tree.specs.LedgerLaws as ledger
 use Rattle.tree.specs.Changes.{pruned}
 use Rattle.tree.specs.HopLaws.{leaf_hop}
 use Rattle.tree.specs.StoreLaws.{hop_at}
-use Rattle.tree.proofs.Changes as changes
-use Rattle.tree.proofs.Lengths as lengths
 use Rattle.tree.proofs.Paths.{together_is, nothing_new}
-use Rattle.tree.proofs.Prefixes.{stands_struck}
 use Rattle.tree.proofs.Sounds.{turn_sound}
 use Rattle.tree.proofs.Stores.{routes_held}
-use Rattle.store.specs.Content.{Content, Map, present}
+use Rattle.store.specs.Content.{Content, Map}
 use Rattle.path.proofs.Laws as path
 use Rattle.path.specs.Prune.{others}
 use Rattle.path.specs.Shorter.{NextShorter}

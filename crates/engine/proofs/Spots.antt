@@ -1,5 +1,5 @@
 -- A descent along a node's own row ends at the node. Assumes nothing.
-use Rattle.std.proofs.Common.{◌≡◌, ℕ, zero, suc, ◌<◌, ◌≤◌, Bool, true, false, List, [], ◌∷◌, length, take, sym, refl, ap, ◌∙◌, subst, inl, inr, arith, length-take, take_all}
+use Rattle.std.proofs.Common.{◌≡◌, ℕ, zero, suc, ◌<◌, true, false, List, [], ◌∷◌, length, take, refl, ap, ◌∙◌, subst, inl, inr, arith, length-take, take_all}
 use Rattle.std.proofs.lemmas.Bool.{both_ways, and_from, lt-ltb}
 use Rattle.bits.specs.Rows.{Bits}
 use Rattle.bits.proofs.Begins.{take_begins}
@@ -7,7 +7,6 @@ use Rattle.tree.specs.Tree.{Routes, Shape, leaf, fork, above, has_node, shape_at
 use Rattle.tree.specs.HopLaws.{Leaf}
 use Rattle.tree.proofs.Leaves.{ends_at, leaf_ends}
 use Rattle.graph.specs.Slots.{Unfolds}
-use Rattle.graph.specs.declared.edge.Edge.{Edge}
 use Rattle.graph.specs.declared.vertex.Vertex.{Vertex}
 use Rattle.path.specs.Descend.{SpotOf}
 use Rattle.path.specs.declared.down.Spot.{Spot}

@@ -1,5 +1,5 @@
 -- What the stores hold, read as facts of the routes. Assumes nothing.
-use Rattle.std.proofs.Common.{◌≡◌, ℕ, ◌+◌, ◌-◌, ◌^◌, ◌<◌, ◌≤◌, min, Bool, true, false, cond, not, ◌&&◌, ◌||◌, eqb, ltb, List, [], ◌∷◌, length, is_some, Some, None, Ok, Err, Option, Result, sym, refl, ap, ◌∙◌, inl, inr, arith, MatchResult}
+use Rattle.std.proofs.Common.{◌≡◌, ℕ, ◌+◌, ◌-◌, ◌^◌, ◌<◌, ◌≤◌, min, Bool, true, false, cond, not, ◌&&◌, eqb, ltb, List, [], ◌∷◌, length, is_some, Some, None, Ok, Err, Option, Result, sym, refl, ap, ◌∙◌, inl, inr, arith}
 use mathlib.Core.Path.{fun_ext}
 use mathlib.Core.List.{mem-cons_self}
 use Rattle.std.proofs.lemmas.Bool.{cases_Bool, or_left, or_right, lt-ltb, le-ltb}
@@ -10,7 +10,7 @@ use Rattle.bits.proofs.Members.{same_self, same_swap, has_row}
 use Rattle.bits.proofs.Tests.{same_is}
 use Rattle.bits.proofs.Begins.{begins_same}
 use Rattle.refusal.specs.declared.Refusal.{Refusal}
-use Rattle.store.specs.Content.{Content, Sound, Puts, Wrote, Removes, put_refusal, bad_hop, hop_told, absent, present}
+use Rattle.store.specs.Content.{Content, Sound, Puts, Wrote, put_refusal, bad_hop, hop_told, absent, present}
 use Rattle.tree.specs.Tree.{Route, Routes, above, pushed, leaves, matches, matched, longest, hop_of, has_node, shape_at}
 use Rattle.tree.specs.Ledger.{Given, stands, struck, entered, greatest_hop}
 use Rattle.tree.specs.LedgerLaws as ledger
@@ -18,7 +18,7 @@ use Rattle.tree.specs.Changes.{painted, reach}
 use Rattle.tree.specs.HopLaws.{Leaf, leaf_hop}
 use Rattle.tree.specs.CountLaws.{unmatched}
 use Rattle.tree.specs.StoreLaws.{hop_at, leaf_entry}
-use Rattle.tree.proofs.Stores.{routes_held, told_at, entered_hop, struck_hop}
+use Rattle.tree.proofs.Stores.{routes_held, entered_hop, struck_hop}
 use Rattle.tree.proofs.Entries.{entry_leaf}
 use Rattle.tree.proofs.Matched.{some_hop}
 use Rattle.tree.proofs.Longest.{longest_some}

@@ -1,5 +1,5 @@
 -- One lemma for each way to write a change: what the parts do to the stores comes to what they hold for the new routes. Assumes nothing.
-use Rattle.std.proofs.Common.{◌≡◌, ℕ, suc, ◌+◌, ◌-◌, ◌≤◌, Bool, true, false, cond, not, ◌&&◌, eqb, ltb, List, [], ◌∷◌, length, is_some, Some, None, Option, Result, sym, refl, ap, ◌∙◌, subst, inl, inr, arith}
+use Rattle.std.proofs.Common.{◌≡◌, ℕ, suc, ◌+◌, ◌≤◌, Bool, true, false, cond, not, ◌&&◌, eqb, ltb, List, [], ◌∷◌, length, is_some, Some, None, Option, Result, sym, refl, ap, ◌∙◌, subst, inl, inr, arith}
 use mathlib.Core.Path.{fun_ext}
 use mathlib.Core.List.{Mem}
 use Rattle.std.proofs.lemmas.Bool.{cases_Bool, and_parts}
@@ -8,7 +8,7 @@ use Rattle.bits.specs.Lists.{any, count}
 use Rattle.bits.specs.Rows.{Bits, same, begins}
 use Rattle.bits.proofs.Members.{has_row, count_none, count_most}
 use Rattle.refusal.specs.declared.Refusal.{Refusal}
-use Rattle.store.specs.Content.{Content, Sound, Puts, Wrote, Removes, put_refusal, present, absent, size}
+use Rattle.store.specs.Content.{Content, Sound, Puts, Removes, put_refusal, present, absent, size}
 use Rattle.tree.specs.Tree.{Routes, leaf, above, has_node, shape_at, grown, pushed, leaves, matches}
 use Rattle.tree.specs.Ledger.{Given, stands, struck, entered}
 use Rattle.tree.specs.LedgerLaws as ledger

@@ -1,5 +1,5 @@
 -- The shapes that `fork` and `keep_only` leave, and that `keep_only` from the old start undoes what forks have made. Assumes nothing.
-use Rattle.std.proofs.Common.{◌≡◌, ℕ, true, false, ◌⊎◌, List, ◌∷◌, length, sym, ap, ◌∙◌, subst, inl, inr, arith}
+use Rattle.std.proofs.Common.{◌≡◌, ℕ, true, false, ◌⊎◌, List, ◌∷◌, length, sym, ap, ◌∙◌, subst, inl, inr}
 use mathlib.Core.Logic.{∥∥₁_elim, ∥∥₁_map, ∥∥₁_prop}
 use mathlib.Core.List.{Mem, mem-cons_self, mem-cons_of_mem, forall_mem-cons}
 use mathlib.Core.Bool.{Bool-set}

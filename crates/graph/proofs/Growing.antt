@@ -1,12 +1,12 @@
 -- Growing a path: one step up, and what the whole path leaves. Assumes nothing.
-use Rattle.std.proofs.Common.{◌≡◌, ℕ, ◌+◌, ◌<◌, ◌≤◌, Bool, true, false, cond, not, ◌⊎◌, List, [], ◌∷◌, ◌++◌, length, get_or, drop, Result, sym, refl, ap, ◌∙◌, subst, inl, inr, arith, MatchResult}
+use Rattle.std.proofs.Common.{◌≡◌, ℕ, ◌+◌, ◌<◌, ◌≤◌, Bool, true, false, cond, not, List, ◌∷◌, ◌++◌, length, get_or, drop, Result, sym, refl, ap, ◌∙◌, subst, inl, inr, arith, MatchResult}
 use mathlib.Core.Logic.{∥∥₁_elim, ∥∥₁_map, ∥∥₁_prop}
 use mathlib.Core.List.Memᴰ
 use mathlib.Core.List.{Mem, Memᴰ}
 use mathlib.Core.Bool.{Bool-set}
 use Rattle.std.proofs.lemmas.List.{drop_all, drop_more}
 use Rattle.std.proofs.lemmas.Result.{MatchResult-weaker}
-use Rattle.std.proofs.lemmas.Bool.{cases_Bool, cases_eq, both_ways}
+use Rattle.std.proofs.lemmas.Bool.{cases_Bool, cases_eq}
 use Rattle.bits.specs.Lists.{any, different}
 use Rattle.bits.specs.Rows.{Bits}
 use Rattle.bits.proofs.Sets.{without, different_without, any_of_member}
@@ -19,10 +19,10 @@ use Rattle.graph.specs.Calls.{Kept, Unheld, Made, Refused}
 use Rattle.graph.specs.View.{Holds}
 use Rattle.graph.specs.Grow.{New, Pathed, Stopped, Paths, Grown, Overfull, Grows}
 use Rattle.graph.specs.declared.edge.Edge.{Edge}
-use Rattle.graph.specs.declared.edge.Edge.TheVariants.{End, To}
+use Rattle.graph.specs.declared.edge.Edge.TheVariants.{To}
 use Rattle.graph.specs.declared.vertex.Vertex.{Vertex}
 use Rattle.graph.proofs.Edges.{to_is}
-use Rattle.graph.proofs.Unfold.{led_unfolds, unfolds_one}
+use Rattle.graph.proofs.Unfold.{led_unfolds}
 use Rattle.graph.proofs.Marking.{member_left, member_right}
 use Rattle.graph.proofs.Back.{slot_of}
 use Rattle.graph.proofs.Count.{length_in_use, tally_at_most}

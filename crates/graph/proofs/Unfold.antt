@@ -1,5 +1,5 @@
 -- What an edge of a table unfolds to: at most one shape, and in a sound table from at most one edge. Assumes nothing.
-use Rattle.std.proofs.Common.{◌≡◌, ℕ, Bool, true, false, List, sym, refl, ap, subst}
+use Rattle.std.proofs.Common.{◌≡◌, ℕ, Bool, true, false, List, refl, ap}
 use mathlib.Core.Logic.{∥∥₁_elim, ∥∥₁_map, ∥∥₁_prop}
 use mathlib.Core.HLevel.{×_prop}
 use native.Mathlib.Nat.{ℕ_set}

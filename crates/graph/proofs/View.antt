@@ -1,14 +1,13 @@
 -- A sound table as a graph: closed, one vertex for each shape, and as many as there are different shapes. Assumes nothing.
-use Rattle.std.proofs.Common.{◌≡◌, ℕ, zero, suc, ◌+◌, ◌≤◌, Bool, true, false, eqb, ◌⊎◌, List, [], ◌∷◌, length, refl, subst, inl, inr, arith}
+use Rattle.std.proofs.Common.{◌≡◌, ℕ, ◌≤◌, Bool, true, false, eqb, List, [], ◌∷◌, length, refl, subst, inl, inr, arith}
 use mathlib.Core.Logic.{∥∥₁_elim, ∥∥₁_map, ∥∥₁_prop}
 use mathlib.Core.List.Memᴰ
 use mathlib.Core.List.{Mem, Memᴰ, mem-cons_self, mem-cons_of_mem, forall_mem-cons, not-mem-nil}
-use mathlib.Core.Bool.{Bool-set}
 use native.Mathlib.Nat.{ℕ_set}
 use Rattle.bits.specs.Lists.{different}
 use Rattle.tree.specs.Tree.{Routes, Shape, fork, alike, shapes, pushed}
 use Rattle.tree.specs.Graph.{Edge as Way, to, Inside, Closed, EndsAtLeaves, Reads, reads_end, reads_to, OneForEach}
-use Rattle.graph.specs.Slots.{at, side_of, next, led, Unfolds, unfolds_end, unfolds_to, Leads, Sound, in_use}
+use Rattle.graph.specs.Slots.{at, next, led, Unfolds, unfolds_end, unfolds_to, Leads, Sound, in_use}
 use Rattle.graph.specs.View.{way, out, graph_of, Holds}
 use Rattle.graph.specs.declared.edge.Edge.{Edge}
 use Rattle.graph.specs.declared.edge.Edge.TheVariants.{End, To}

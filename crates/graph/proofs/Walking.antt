@@ -1,14 +1,13 @@
 -- The walk of a row, some bits on. Assumes nothing.
-use Rattle.std.proofs.Common.{◌≡◌, ℕ, suc, ◌+◌, ◌<◌, ◌≤◌, Bool, true, false, List, [], ◌∷◌, length, get_or, drop, Some, None, Option, sym, refl, ap, ◌∙◌, add-zero, arith}
+use Rattle.std.proofs.Common.{◌≡◌, ℕ, suc, ◌+◌, ◌<◌, ◌≤◌, Bool, false, List, length, get_or, drop, Some, None, Option, sym, refl, ap, ◌∙◌, add-zero, arith}
 use Rattle.std.proofs.lemmas.List.{drop_all, drop_more}
 use Rattle.bits.specs.Rows.{Bits}
 use Rattle.tree.specs.Graph.{walk, more}
-use Rattle.graph.specs.Slots.{at, next, led, Leads}
+use Rattle.graph.specs.Slots.{next, led}
 use Rattle.graph.specs.View.{way, out}
 use Rattle.graph.specs.declared.edge.Edge.{Edge}
 use Rattle.graph.specs.declared.edge.Edge.TheVariants.{End, To}
 use Rattle.graph.specs.declared.vertex.Vertex.{Vertex}
-use Rattle.graph.proofs.Edges.{led_is}
 
 -- d bits more
 abbrev pub further : ℕ → Option ℕ → Option ℕ

@@ -12,7 +12,7 @@ use Rattle.bits.specs.Lists.{different}
 use Rattle.tree.specs.Tree.{Routes, Shape, fork, alike, shapes, pushed}
 use Rattle.tree.specs.Graph.{Edge as Way, end, to, Graph, Closed, EndsAtLeaves, Reads, OneForEach}
 use Rattle.tree.specs.LeafLaws.{AtMost}
-use Rattle.graph.specs.Slots.{at, side_of, next, led, Unfolds, Leads, Sound, in_use}
+use Rattle.graph.specs.Slots.{at, side_of, next, led, Unfolds, Sound, in_use}
 use Rattle.graph.specs.Calls.{Kept, Made}
 use Rattle.graph.specs.Keep.{KeptOnly}
 use Rattle.graph.specs.declared.edge.Edge.{Edge}

@@ -9,7 +9,7 @@
 --   StandsFor rs g order  the vertices so numbered are those of different branching shapes of the routes' tree
 --   WalksToLeaves W rs i the image's walk gives each address of W bits its leaf's length
 --   ImageLaws             what holds of every image of a graph
-use Rattle.std.specs.Prelude.{◌≡◌, ℕ, suc, ◌-◌, ◌*◌, ◌/◌, ◌%◌, ◌^◌, ◌<◌, ◌≤◌, Bool, true, false, ◌⊎◌, ◌↔◌, List, [], ◌∷◌, length, take, Some, ◌==◌, slice_index}
+use Rattle.std.specs.Prelude.{◌≡◌, ℕ, suc, ◌-◌, ◌/◌, ◌%◌, ◌^◌, ◌<◌, ◌≤◌, Bool, false, ◌⊎◌, ◌↔◌, List, [], ◌∷◌, length, take, Some, ◌==◌, slice_index}
 use mathlib.Core.List.{Mem, Nodup}
 use Rattle.bits.specs.Rows.{Bits, word}
 use Rattle.tree.specs.Tree.{Routes, Shape, shapes, pushed}

@@ -1,6 +1,5 @@
 -- The marks of a vertex, from edge 0 up. Assumes nothing.
 use Rattle.std.proofs.Common.{◌≡◌, ℕ, zero, suc, ◌+◌, ◌-◌, ◌%◌, ◌^◌, ◌<◌, ◌≤◌, Bool, true, false, cond, not, eqb, ◌↔◌, List, Some, None, Option, sym, refl, ap, ◌∙◌, subst, true≢false, pow-suc, arith, pow_mono}
-use mathlib.Core.Logic.{∥∥₁_elim}
 use mathlib.Core.Bool.{false≢true}
 use Rattle.std.proofs.lemmas.Bool.{eqb-true, eqb-false, eq-eqb, ne_eqb}
 use Rattle.bits.specs.Rows.{word}

@@ -1,5 +1,5 @@
 -- What was drawn is an image of the table's graph. Assumes nothing.
-use Rattle.std.proofs.Common.{◌≡◌, ℕ, zero, suc, ◌+◌, ◌-◌, ◌*◌, ◌<◌, ◌≤◌, Bool, true, ◌↔◌, List, [], ◌∷◌, length, get_or, take, drop, sym, refl, ap, ◌∙◌, subst, arith}
+use Rattle.std.proofs.Common.{◌≡◌, ℕ, suc, ◌+◌, ◌-◌, ◌*◌, ◌<◌, ◌≤◌, true, ◌↔◌, List, [], ◌∷◌, length, get_or, take, drop, sym, refl, ap, ◌∙◌, subst, arith}
 use mathlib.Core.Logic.{∥∥₁_elim, ∥∥₁_prop}
 use mathlib.Core.List.Memᴰ
 use mathlib.Core.List.{Mem, Memᴰ, Nodup, Nodup-cons, Nodup-nil}
@@ -13,7 +13,7 @@ use Rattle.graph.specs.declared.edge.Edge.TheVariants.{End, To}
 use Rattle.graph.specs.declared.vertex.Vertex.{Vertex}
 use Rattle.graph.proofs.Count.{tally_at_most, length_in_use, used_listed, listed_in_use}
 use Rattle.graph.proofs.View.{closed}
-use Rattle.image.specs.Image.{edges_each, edge_at}
+use Rattle.image.specs.Image.{edges_each}
 use Rattle.image.specs.Picture.{down, Marked, Leads, Starts, Pictures}
 use Rattle.image.proofs.Places.{member_at}
 use Rattle.imaging.specs.Make.{picture, Rooted, Images}

@@ -1,5 +1,5 @@
 -- An image of an engine's graph, while routes stand. Assumes nothing.
-use Rattle.std.proofs.Common.{◌≡◌, ℕ, ◌*◌, ◌<◌, ◌≤◌, Bool, true, false, cond, ◌||◌, ltb, List, [], length, take, Some, None, Ok, Err, Option, Result, sym, refl, ap, ◌∙◌, subst, ⊎_elim, arith}
+use Rattle.std.proofs.Common.{◌≡◌, ℕ, ◌*◌, ◌<◌, ◌≤◌, cond, ◌||◌, ltb, List, length, take, Some, None, Ok, Err, Option, Result, sym, refl, ap, ◌∙◌, subst, ⊎_elim, arith}
 use Rattle.std.proofs.lemmas.List.{nil_from_length}
 use Rattle.std.proofs.lemmas.Bool.{cases_lt, lt-ltb}
 use Rattle.bits.specs.Rows.{Bits}
@@ -7,15 +7,15 @@ use Rattle.bits.specs.Lists.{different}
 use Rattle.bits.proofs.Begins.{take_begins}
 use Rattle.refusal.specs.declared.Refusal.{Refusal}
 use Rattle.refusal.specs.declared.Refusal.TheVariants.{Stride, ImageRows}
-use Rattle.tree.specs.Tree.{Routes, Shape, leaf, alike, shapes, pushed, longest, hop_of}
+use Rattle.tree.specs.Tree.{Routes, leaf, alike, shapes, pushed, longest, hop_of}
 use Rattle.tree.specs.Graph.{LeafAt}
-use Rattle.tree.specs.Ledger.{Given, lookup, looked}
+use Rattle.tree.specs.Ledger.{Given, looked}
 use Rattle.tree.specs.LeafLaws.{AtMost}
 use Rattle.tree.specs.StoreLaws.{leaf_entry}
 use Rattle.tree.proofs.Walks.{leaf_depth}
 use Rattle.tree.proofs.Tells.{leaf_at}
 use Rattle.tree.proofs.Stores.{found_at_leaf}
-use Rattle.graph.specs.Slots.{led, in_use, Sound, Unfolds, unfolds_end}
+use Rattle.graph.specs.Slots.{in_use, Sound, Unfolds, unfolds_end}
 use Rattle.graph.specs.View.{Holds, graph_of}
 use Rattle.graph.specs.declared.edge.Edge.{Edge}
 use Rattle.graph.specs.declared.edge.Edge.TheVariants.{End}
@@ -31,7 +31,7 @@ use Rattle.engine.specs.Calls.{hop_answer}
 use Rattle.reader.specs.Rows.{rows_refusal, bad_stride, short_rows}
 use Rattle.reader.specs.Reader.{Walked}
 use Rattle.imaging.specs.Make.{picture, Rooted, Images, Made, Shows}
-use Rattle.imaging.specs.Look.{Found, Looked}
+use Rattle.imaging.specs.Look.{Looked}
 
 -- the table, the start and the stride as they were handed on
 pub made_is : (xs ys : List Vertex) (start begin : Edge) (s t V : ℕ) (es fs ms ns : List ℕ) → ys ≡ xs → begin ≡ start → t ≡ s → V ≡ length (in_use ys) → rows_refusal es ms s V ≡ None → Images ys begin t es fs ms ns (length (in_use ys)) → Made xs start s es fs ms ns V

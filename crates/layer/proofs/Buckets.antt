@@ -1,17 +1,17 @@
 -- Buckets, strays and the choice among four buckets. Assumes nothing.
-use Rattle.std.proofs.Common.{◌≡◌, ℕ, zero, suc, ◌+◌, ◌*◌, ◌/◌, ◌<◌, ◌≤◌, Bool, true, false, cond, not, ◌||◌, eqb, ltb, ◌≢◌, ◌⊎◌, List, [], ◌∷◌, length, set, replicate, Some, None, Option, sym, refl, ap, ◌∙◌, subst, inl, inr, add-zero, add-suc, add-one, arith}
-use Rattle.std.proofs.lemmas.Bool.{cases_Bool, cases_eq, cases_lt, true≢false, both_ways, eqb-true, ltb-true, ltb-false, lt-ltb, le-ltb, eq-eqb, or_cases}
+use Rattle.std.proofs.Common.{◌≡◌, ℕ, zero, suc, ◌+◌, ◌*◌, ◌/◌, ◌<◌, ◌≤◌, true, false, cond, not, ltb, ◌⊎◌, List, [], ◌∷◌, length, set, replicate, Some, None, Option, sym, refl, subst, inl, inr, add-zero, add-one, arith}
+use Rattle.std.proofs.lemmas.Bool.{cases_Bool, cases_eq, cases_lt, true≢false, eqb-true, lt-ltb, le-ltb, eq-eqb, or_cases}
 use Rattle.std.proofs.lemmas.Bool.Decides.{nat_tests}
-use Rattle.bits.specs.Rows.{Bits, same}
+use Rattle.bits.specs.Rows.{Bits}
 use Rattle.bits.proofs.Tests.{same_is}
 use Rattle.net.specs.Prefix.{row_of}
 use Rattle.net.specs.declared.prefix.Prefix.{Prefix}
 use Rattle.net.proofs.Prefixes.{one_for_a_row}
-use Rattle.store.specs.Slots.{at, holds, taken, spot, Apart}
+use Rattle.store.specs.Slots.{at, holds, taken, spot}
 use Rattle.store.specs.declared.slot.Slot.{Slot}
 use Rattle.store.specs.declared.slot.Slot.TheVariants.{Free, Taken}
-use Rattle.store.proofs.Spots.{spot_is, spot_none, spot_holds}
-use Rattle.layer.specs.Buckets.{size_at_lem, fill, near, astray, strays_from, strays_in, earliest_least, EarliestLeast, ChoiceLaw, choice, FindsNear, Found}
+use Rattle.store.proofs.Spots.{spot_none, spot_holds}
+use Rattle.layer.specs.Buckets.{fill, near, astray, strays_from, strays_in, earliest_least, EarliestLeast, ChoiceLaw, choice, Found}
 
 -- a free slot of a bucket leaves it not full
 pub fill_free : (xs : List Slot) (i b : ℕ) → i / 3 ≡ b → taken (at xs i) ≡ false → fill xs b < 3

@@ -1,25 +1,24 @@
 -- What each way through a layer's calls leaves. Assumes nothing.
-use Rattle.std.proofs.Common.{◌≡◌, ℕ, zero, suc, ◌+◌, ◌-◌, ◌*◌, ◌/◌, ◌<◌, ◌≤◌, min, Bool, true, false, cond, not, ◌&&◌, eqb, ltb, ◌≢◌, ◌⊎◌, List, [], ◌∷◌, length, set, replicate, is_some, is_ok, Some, None, Ok, Err, MatchBool, Option, Result, sym, refl, ap, ◌∙◌, subst, inl, inr, arith, MatchResult}
-use Rattle.std.proofs.lemmas.Bool.{cases_Bool, true≢false, both_ways, ltb-true, ltb-false, lt-ltb, le-ltb, eqb-true, eqb-false, eq-eqb, ne_eqb}
-use Rattle.std.proofs.lemmas.Bool.Decides.{nat_tests}
+use Rattle.std.proofs.Common.{◌≡◌, ℕ, ◌+◌, ◌-◌, ◌/◌, ◌<◌, ◌≤◌, min, true, false, cond, eqb, ltb, List, length, set, replicate, is_ok, Some, None, Ok, Err, Option, Result, sym, refl, ap, ◌∙◌, subst, inl, inr, arith}
+use Rattle.std.proofs.lemmas.Bool.{cases_Bool, true≢false, lt-ltb, le-ltb, eqb-true, eqb-false, eq-eqb, ne_eqb}
 use Rattle.bits.specs.Rows.{Bits, same}
 use Rattle.bits.proofs.Tests.{same_is}
 use Rattle.net.specs.Prefix.{row_of}
 use Rattle.net.specs.declared.prefix.Prefix.{Prefix}
 use Rattle.refusal.specs.declared.Refusal.{Refusal}
-use Rattle.refusal.specs.declared.Refusal.TheVariants.{Hop, StoreFull}
-use Rattle.store.specs.Content.{Told, absent, hop_told, present, size, Content, bad_hop, put_refusal, Wrote, Puts, Removes, Empty, Sound}
-use Rattle.store.specs.Slots.{at, holds, told_by, taken, spot, told_at, told_in, used, Apart}
+use Rattle.refusal.specs.declared.Refusal.TheVariants.{StoreFull}
+use Rattle.store.specs.Content.{Told, absent, present, Content, bad_hop, put_refusal, Puts, Removes, Empty, Sound}
+use Rattle.store.specs.Slots.{at, told_by, taken, spot, told_at, told_in, used}
 use Rattle.store.specs.declared.slot.Slot.{Slot}
 use Rattle.store.specs.declared.slot.Slot.TheVariants.{Free, Taken}
-use Rattle.store.proofs.Spots.{Of, of_free, of_entry, Site, site_held, site_free, spot_holds, used_most}
+use Rattle.store.proofs.Spots.{of_free, of_entry, site_held, site_free, spot_holds}
 use Rattle.store.proofs.Rows.{held_present, all_taken, used_none, told_none, apart_none}
 use Rattle.layer.specs.declared.place.Place.{Place}
 use Rattle.layer.specs.declared.place.Place.TheVariants.{Bucket}
 use Rattle.layer.specs.declared.place.Place.TheVariants as place
 use Rattle.layer.specs.Buckets.{fill, near, astray, strays_in, choice}
 use Rattle.layer.specs.Layers.{joined, layer_content, Layered, LayerSound, Fresh}
-use Rattle.layer.specs.Places.{place_by, place_of, Stay, Placed, LastResort, Lands, PutPlaces, PutsIn}
+use Rattle.layer.specs.Places.{place_of, Stay, Placed, Lands, PutsIn}
 use Rattle.layer.proofs.Buckets.{fill_free, choice_near, free_astray, strays_set, strays_none, astray_held, free_at}
 use Rattle.layer.proofs.Writes.{layer_sound, own_wrote, own_places, own_separate, own_apart, below_wrote, below_places, below_separate}
 

@@ -1,28 +1,23 @@
 -- What a write to a layer's own slots, or to the store below, does to the layer's content and places. Assumes nothing.
-use Rattle.std.proofs.Common.{◌≡◌, ℕ, zero, suc, ◌+◌, ◌*◌, ◌/◌, ◌<◌, ◌≤◌, min, Bool, true, false, cond, not, ◌&&◌, ◌||◌, eqb, ltb, ◌≢◌, ◌⊎◌, List, [], ◌∷◌, ◌++◌, length, set, replicate, Some, None, Option, sym, refl, ap, ◌∙◌, subst, inl, inr, arith}
-use mathlib.Core.Logic.{∥∥₁_elim, ∥∥₁_map, ∥∥₁_prop}
+use Rattle.std.proofs.Common.{◌≡◌, ℕ, ◌/◌, ◌≤◌, Bool, true, false, cond, ◌||◌, List, [], ◌∷◌, ◌++◌, set, Some, None, Option, sym, refl, ap, ◌∙◌, inl, inr, arith}
+use mathlib.Core.Logic.{∥∥₁_map}
 use Rattle.std.proofs.lemmas.List.{length-append}
-use Rattle.std.proofs.lemmas.Bool.{cases_Bool, true≢false, both_ways}
-use Rattle.std.proofs.lemmas.Bool.Decides.{nat_tests}
+use Rattle.std.proofs.lemmas.Bool.{cases_Bool, true≢false}
 use Rattle.bits.specs.Lists.{any}
 use Rattle.bits.specs.Rows.{Bits, same}
 use Rattle.bits.proofs.Fronts.{same_self}
 use Rattle.bits.proofs.Sets.{NoRepeats}
 use Rattle.bits.proofs.Tests.{same_is}
-use Rattle.net.specs.Prefix.{row_of}
 use Rattle.net.specs.declared.prefix.Prefix.{Prefix}
-use Rattle.store.specs.Content.{Told, absent, hop_told, present, size, Map, Content, Listed, Counted, Wrote, Sound}
-use Rattle.store.specs.Slots.{at, holds, told_by, taken, spot, told_at, told_in, used, Apart}
+use Rattle.store.specs.Content.{Told, absent, present, size, Content, Listed, Counted, Wrote, Sound}
+use Rattle.store.specs.Slots.{told_by, taken, spot, told_at, told_in, Apart}
 use Rattle.store.specs.declared.slot.Slot.{Slot}
-use Rattle.store.specs.declared.slot.Slot.TheVariants.{Free, Taken}
-use Rattle.store.proofs.Spots.{Of, Site, Written, written, spot_holds}
+use Rattle.store.proofs.Spots.{Of, Site, written}
 use Rattle.store.proofs.Numbers.{rows, rows_listed}
-use Rattle.layer.specs.declared.place.Place.{Place}
 use Rattle.layer.specs.declared.place.Place.TheVariants.{Bucket}
 use Rattle.layer.specs.declared.place.Place.TheVariants as place
-use Rattle.layer.specs.Buckets.{strays_in}
 use Rattle.layer.specs.Layers.{joined, layer_content, Layered}
-use Rattle.layer.specs.Places.{place_by, place_of, Placed}
+use Rattle.layer.specs.Places.{place_by, Placed}
 
 -- lists with no row in both
 pub any_both : (t : Bits → Bool) (xs ys : List Bits) → any t (xs ++ ys) ≡ (any t xs || any t ys)

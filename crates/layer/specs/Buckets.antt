@@ -12,7 +12,7 @@
 --   FindsNear f xs p r   r is a slot that holds the prefix, or none where none of its four buckets has one
 --   FreesIn xs b r       r is a free slot of bucket b, or none where it is full
 --   Rooms f xs p r        r is a free slot of the choice, or none where it is full
-use Rattle.std.specs.Prelude.{◌≡◌, ℕ, zero, suc, ◌+◌, ◌*◌, ◌/◌, ◌<◌, ◌≤◌, Bool, true, false, cond, not, ◌||◌, List, [], ◌∷◌, IfSome, Some, None, Option, MatchOption, ◌==◌, nat_lt}
+use Rattle.std.specs.Prelude.{◌≡◌, ℕ, zero, suc, ◌+◌, ◌*◌, ◌/◌, ◌<◌, ◌≤◌, Bool, true, false, cond, not, ◌||◌, List, [], ◌∷◌, IfSome, Option, MatchOption, ◌==◌, nat_lt}
 use Rattle.bits.specs.Rows.{Bits}
 use Rattle.net.specs.Prefix.{row_of}
 use Rattle.net.specs.declared.prefix.Prefix.{Prefix}

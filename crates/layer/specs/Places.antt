@@ -7,7 +7,7 @@
 --   Lands f p xs c w           a new prefix goes to w: the least filled of its four buckets, below if that is full, the last resort if below is full too
 --   PutPlaces f p xs c ys d r where every row is after setting a hop
 --   PutsIn                    all that setting a hop leaves, in one piece
-use Rattle.std.specs.Prelude.{◌≡◌, ℕ, ◌/◌, ◌<◌, true, false, cond, List, Some, None, MatchBool, Option, Result, MatchOption, MatchResult, nat_lt}
+use Rattle.std.specs.Prelude.{◌≡◌, ℕ, ◌/◌, ◌<◌, cond, List, Some, None, MatchBool, Option, Result, MatchOption, MatchResult, nat_lt}
 use Rattle.bits.specs.Rows.{Bits, same}
 use Rattle.net.specs.Prefix.{row_of}
 use Rattle.net.specs.declared.prefix.Prefix.{Prefix}

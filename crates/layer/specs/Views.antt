@@ -5,7 +5,7 @@
 --   place_in content l q           where the layer has the row q
 --   PutsLayer                     where every row is after setting a hop, l before and m after
 --   TakesLayer                    where every row is after taking one out
-use Rattle.std.specs.Prelude.{◌≡◌, ℕ, None, Option, Result}
+use Rattle.std.specs.Prelude.{ℕ, None, Option, Result}
 use Rattle.bits.specs.Rows.{Bits}
 use Rattle.net.specs.Prefix.{row_of}
 use Rattle.net.specs.declared.prefix.Prefix.{Prefix}

@@ -6,7 +6,7 @@
 --   read_line W bs     what the line bs means to a family of W bits; where W is no multiple of 4 no line has a meaning
 --   ReadsField k o m r   the answer r is what the field at column k writes, by its meaning m; where it writes nothing, its refusal
 --   Means row x r      the answer r is the reading x, where row is what an address means
-use Rattle.std.specs.Prelude.{◌≡◌, ℕ, ◌*◌, ◌%◌, true, false, cond, List, length, Some, None, Option, Result, MatchResult, ◌==◌}
+use Rattle.std.specs.Prelude.{◌≡◌, ℕ, ◌*◌, ◌%◌, cond, List, length, Some, None, Option, Result, MatchResult, ◌==◌}
 use Rattle.bits.specs.Rows.{Bits}
 use Rattle.refusal.specs.declared.Refusal.{Refusal}
 use Rattle.refusal.specs.declared.Refusal.TheVariants.{Line, Field}

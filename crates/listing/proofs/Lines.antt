@@ -1,19 +1,17 @@
 -- What a line of a listing stands for, found step by step. Assumes nothing.
-use Rattle.std.proofs.Common.{◌≡◌, ℕ, suc, ◌+◌, ◌-◌, ◌*◌, ◌<◌, ◌≤◌, Bool, true, false, cond, ◌||◌, eqb, leb, ◌⊎◌, List, [], ◌∷◌, ◌++◌, length, take, drop, is_some, Some, None, Ok, Err, Option, Result, sym, refl, ap, ◌∙◌, subst, inl, inr, arith}
-use Rattle.std.proofs.lemmas.List.{length-append, take_rest}
-use Rattle.std.proofs.lemmas.Bool.{eq-eqb, le-leb}
-use Rattle.std.proofs.lemmas.Bool.Decides.{nat_tests}
-use Rattle.bits.specs.Rows.{Bits, halves, padded, word}
-use Rattle.bits.proofs.Words.{length_word}
+use Rattle.std.proofs.Common.{◌≡◌, ℕ, ◌+◌, ◌-◌, ◌*◌, ◌≤◌, Bool, true, false, cond, eqb, leb, ◌⊎◌, List, [], ◌∷◌, length, take, drop, is_some, Some, None, Ok, Err, Option, Result, sym, refl, ap, ◌∙◌, subst, inl, inr, arith}
+use Rattle.std.proofs.lemmas.List.{take_rest}
+use Rattle.std.proofs.lemmas.Bool.{le-leb}
+use Rattle.bits.specs.Rows.{Bits, halves}
 use Rattle.bits.proofs.Fronts.{padded_front}
 use Rattle.refusal.specs.declared.Refusal.{Refusal}
-use Rattle.refusal.specs.declared.Refusal.TheVariants.{Line, Field}
+use Rattle.refusal.specs.declared.Refusal.TheVariants.{Line}
 use Rattle.net.specs.declared.prefix.Prefix.{Prefix}
-use Rattle.net.specs.Prefix.{row_of, refusal_of, Makes}
-use Rattle.text.specs.Fields.{first_of, in_front, parted, fields, decimal, hex_digit, joined, hex_row, Holds}
+use Rattle.net.specs.Prefix.{refusal_of, Makes}
+use Rattle.text.specs.Fields.{first_of, in_front, parted, decimal, hex_row, Holds}
 use Rattle.text.proofs.Marks.{parted_at, parted_none}
 use Rattle.text.proofs.Digits.{hex_length}
-use Rattle.listing.specs.Listing.{Reading, refused, prefix, address_row, checked, read_two, read_fields, read_prefix, Reads}
+use Rattle.listing.specs.Listing.{refused, prefix, address_row, checked, read_two, read_fields, read_prefix, Reads}
 
 none_some : {A : Type 0} {x : A} → None ≡ Some x → ⊥
 none_some e = let z : ◌≡◌ {A = ℕ} 0 1 = cc in omega arith

@@ -1,5 +1,5 @@
 -- The first bits of two halves, and one bit more. Assumes nothing.
-use Rattle.std.proofs.Common.{◌≡◌, ℕ, suc, ◌+◌, ◌-◌, ◌<◌, ◌≤◌, Bool, true, false, List, [], ◌∷◌, ◌++◌, length, take, replicate, sym, refl, ap, ◌∙◌, arith}
+use Rattle.std.proofs.Common.{◌≡◌, ℕ, suc, ◌+◌, ◌-◌, ◌<◌, ◌≤◌, true, false, [], ◌∷◌, ◌++◌, length, take, replicate, sym, refl, ap, ◌∙◌, arith}
 use Rattle.std.proofs.lemmas.List.{append_assoc, length_push, length-take-le, take-append-le, take_all, replicate-append-replicate}
 use Rattle.bits.specs.Rows.{Bits, halves, padded, word}
 use Rattle.bits.proofs.Words.{length_word, word_zeros}

@@ -1,15 +1,14 @@
 -- Addresses as the beginning of two halves. Assumes nothing.
-use Rattle.std.proofs.Common.{◌≡◌, ℕ, ◌+◌, ◌-◌, ◌*◌, ◌/◌, ◌%◌, ◌^◌, ◌<◌, ◌≤◌, min, Bool, true, false, cond, ◌||◌, List, [], ◌∷◌, ◌++◌, length, get_or, take, drop, replicate, Some, None, Ok, Err, Result, sym, refl, ap, ◌∙◌, mod-eq_of_lt, arith}
+use Rattle.std.proofs.Common.{◌≡◌, ℕ, ◌+◌, ◌-◌, ◌*◌, ◌/◌, ◌%◌, ◌^◌, ◌<◌, ◌≤◌, min, false, ◌||◌, [], ◌∷◌, ◌++◌, length, get_or, take, drop, replicate, Ok, Err, Result, sym, refl, ap, ◌∙◌, mod-eq_of_lt, arith}
 use Rattle.std.proofs.lemmas.List.{append_assoc, drop-append-le, take-append-le, replicate-append-replicate}
 use Rattle.std.proofs.lemmas.Nat.{shl_below}
 use Rattle.std.proofs.lemmas.Bool.{le-ltb}
-use Rattle.bits.specs.Lists.{any}
 use Rattle.bits.specs.Rows.{Bits, any_one, halves, padded, word}
 use Rattle.bits.proofs.Words.{length_word, take_word, word_shl, word_zeros}
 use Rattle.bits.proofs.Fronts.{no_one_zeros, bit_zeros}
 use Rattle.refusal.specs.declared.Refusal.{Refusal}
 use Rattle.net.specs.declared.prefix.Prefix.{Prefix}
-use Rattle.net.specs.Prefix.{row_of, refusal_of, Makes}
+use Rattle.net.specs.Prefix.{refusal_of, Makes}
 use Rattle.net.specs.Rows.{take_min}
 
 -- a number of w bits, moved to the top of the first half

@@ -1,6 +1,5 @@
 -- Comparing prefixes by their rows is an equivalence.
-use Rattle.std.specs.Prelude.{◌≡◌, true}
-use Rattle.std.proofs.Common.{sym, ap, ◌∙◌, subst}
+use Rattle.std.proofs.Common.{ap}
 use Rattle.std.specs.Cmp.{IsEquivalence, IsPartialEquivalence, partial_equiv_from_equiv}
 use Rattle.bits.specs.Rows.{same}
 use Rattle.bits.proofs.Members.{same_self, same_swap}

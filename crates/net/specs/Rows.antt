@@ -1,9 +1,9 @@
 -- Two halves as one row of 128 bits. Assumes nothing.
-use Rattle.std.specs.Prelude.{◌≡◌, ℕ, ◌+◌, ◌-◌, ◌^◌, ◌<◌, ◌≤◌, min, Bool, true, false, List, [], ◌∷◌, ◌++◌, length, take, drop, replicate, slice_index_or, refl}
+use Rattle.std.specs.Prelude.{◌≡◌, ℕ, ◌-◌, ◌^◌, ◌<◌, ◌≤◌, min, false, ◌++◌, length, take, drop, slice_index_or, refl}
 use Rattle.std.proofs.Common.{sym, ap, ◌∙◌, inl, inr, arith}
-use Rattle.std.proofs.lemmas.List.{length-append, length-replicate, length-take, take_at, drop_at, take_all, take-take, take-append-le, get_or_append_left, get_or-append_right, get_or_past}
+use Rattle.std.proofs.lemmas.List.{length-append, length-take, take_at, drop_at, take_all, take-take, get_or_append_left, get_or-append_right, get_or_past}
 use Rattle.std.proofs.lemmas.Bool.{cases_lt}
-use Rattle.bits.specs.Rows.{Bits, any_one, halves, padded, word}
+use Rattle.bits.specs.Rows.{Bits, halves, padded, word}
 use Rattle.bits.proofs.Words.{length_word, word_injective}
 use Rattle.bits.proofs.Fronts.{padded_two}
 

@@ -1,5 +1,5 @@
 -- What painting from a node comes to, side by side. Assumes nothing.
-use Rattle.std.proofs.Common.{◌≡◌, ℕ, ◌+◌, Bool, true, false, List, [], ◌∷◌, ◌++◌, length, is_some, ap, ◌∙◌, arith, length-append}
+use Rattle.std.proofs.Common.{◌≡◌, ℕ, Bool, true, false, List, [], ◌∷◌, ◌++◌, length, is_some, ap, ◌∙◌, arith, length-append}
 use Rattle.bits.specs.Rows.{Bits}
 use Rattle.tree.specs.Tree.{Shape, fork}
 use Rattle.tree.specs.Changes.{painted}
@@ -9,7 +9,7 @@ use Rattle.graph.specs.declared.edge.Edge.{Edge}
 use Rattle.graph.specs.declared.edge.Edge.TheVariants.{End, To}
 use Rattle.graph.specs.declared.vertex.Vertex.{Vertex}
 use Rattle.graph.proofs.Edges.{led_used}
-use Rattle.paint.specs.Paint.{has, fair, Painted, Fits, side, Paints, PaintsSide}
+use Rattle.paint.specs.Paint.{has, fair, Painted, Fits, Paints, PaintsSide}
 use Rattle.paint.proofs.Writes.{wrote_none, wrote_stop, wrote_append}
 use Rattle.paint.proofs.Below.{sides_apart}
 

@@ -10,7 +10,6 @@ use Rattle.graph.specs.declared.edge.Edge.TheVariants.{End, To}
 use Rattle.graph.specs.declared.vertex.Vertex.{Vertex}
 use Rattle.graph.proofs.Unfold.{unfolds_one}
 use Rattle.graph.proofs.Growing.{side, unfolds_side, taken}
-use Rattle.path.specs.declared.down.Spot.{Spot}
 use Rattle.path.specs.Descend.{SpotOf}
 use Rattle.path.specs.Prune.{is_end}
 

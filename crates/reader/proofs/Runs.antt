@@ -1,9 +1,9 @@
 -- The run of an edge, counted from edge 0 up. Assumes nothing.
-use Rattle.std.proofs.Common.{◌≡◌, ℕ, suc, ◌+◌, ◌-◌, ◌/◌, ◌%◌, ◌^◌, ◌<◌, ◌≤◌, Bool, true, false, List, [], ◌∷◌, ◌++◌, reverse, length, get_or, take, drop, sym, refl, ap, ◌∙◌, subst, ⊎_elim, true≢false, arith}
+use Rattle.std.proofs.Common.{◌≡◌, ℕ, suc, ◌+◌, ◌-◌, ◌<◌, ◌≤◌, Bool, true, false, List, [], ◌∷◌, reverse, length, get_or, take, drop, sym, refl, ap, ◌∙◌, subst, ⊎_elim, true≢false, arith}
 use mathlib.Core.Bool.{beq, false≢true}
 use Rattle.std.proofs.lemmas.List.{take_more, drop_more, drop_all, reverse-append, length-reverse, get_or-reverse}
 use Rattle.std.proofs.lemmas.Bool.{cases_lt}
-use Rattle.bits.specs.Rows.{Bits, word}
+use Rattle.bits.specs.Rows.{word}
 use Rattle.bits.proofs.Words.{length_word, bit_of_word}
 use Rattle.image.specs.Image.{Image, edges_each, marks_of, front_run, run}
 use Rattle.image.specs.Picture.{mark}

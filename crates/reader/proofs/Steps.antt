@@ -1,5 +1,5 @@
 -- The steps of a walk through an image. Assumes nothing.
-use Rattle.std.proofs.Common.{◌≡◌, ℕ, zero, suc, ◌+◌, ◌-◌, ◌*◌, ◌/◌, ◌^◌, ◌<◌, ◌≤◌, Bool, true, false, eqb, ltb, length, drop, Some, None, Option, sym, refl, ap, ◌∙◌, ⊎_elim, suc-mul, mul_comm, div-lt_iff_lt-mul, le-div_iff_mul-le, mul-suc, arith}
+use Rattle.std.proofs.Common.{◌≡◌, ℕ, suc, ◌+◌, ◌-◌, ◌*◌, ◌<◌, ◌≤◌, length, drop, Some, None, Option, sym, refl, ap, ◌∙◌, ⊎_elim, suc-mul, mul_comm, div-lt_iff_lt-mul, le-div_iff_mul-le, mul-suc, arith}
 use native.Mathlib.Nat.{sub-zero}
 use Rattle.std.proofs.lemmas.List.{drop-drop}
 use Rattle.std.proofs.lemmas.Bool.{eq-eqb, ne_eqb, lt-ltb, le-ltb, cases_lt}

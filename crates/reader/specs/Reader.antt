@@ -3,7 +3,7 @@
 --   no_image                what an empty reader holds: an image with no vertex
 --   SetsUp e m s V i j r   what setting a reader up with the rows e and m, the stride s and V vertices answers and leaves, i before and j after
 --   Walked i a .. r         r is what walking the image i by the address a answers, where own and leaves are the ghost members of the leaf store
-use Rattle.std.specs.Prelude.{◌≡◌, ℕ, List, [], take, Some, None, Option, Result, MatchResult}
+use Rattle.std.specs.Prelude.{◌≡◌, ℕ, List, [], take, Some, None, Result, MatchResult}
 use Rattle.bits.specs.Rows.{Bits}
 use Rattle.refusal.specs.declared.Refusal.{Refusal}
 use Rattle.refusal.specs.declared.Refusal.TheVariants.{ImageBroken}

@@ -1,15 +1,15 @@
 -- What a session has heard, one byte after the other, to the end. Assumes nothing.
-use Rattle.std.proofs.Common.{◌≡◌, ℕ, zero, suc, ◌+◌, ◌-◌, ◌<◌, ◌≤◌, List, [], ◌∷◌, ◌++◌, length, take, drop, sym, refl, ap, ◌∙◌, subst, append_assoc, arith}
+use Rattle.std.proofs.Common.{◌≡◌, ℕ, zero, suc, List, [], ◌∷◌, ◌++◌, length, take, drop, sym, refl, ap, ◌∙◌, subst, arith}
 use Rattle.std.proofs.lemmas.List.{append-nil, take_at}
 use Rattle.tree.specs.Ledger as l
 use Rattle.store.specs.Content.{Content}
-use Rattle.engine.specs.Serves.{Serves, Ran}
+use Rattle.engine.specs.Serves.{Ran}
 use Rattle.engine.specs.declared.engine.Engine.{Engine}
 use Rattle.text.specs.Fields.{parted}
 use Rattle.text.specs.Lines.{lines}
 use Rattle.line.specs.Line.{read_line}
 use Rattle.line.specs.Reply.{shown, written}
-use Rattle.line.specs.Told.{calls_in, line_calls, reading_turn, line_turn, replies, reply_to, Told}
+use Rattle.line.specs.Told.{line_calls, reading_turn, replies, reply_to, Told}
 use Rattle.line.proofs.Telling.{one_line_more, replies_join, front_read}
 use Rattle.session.specs.Session.{ended, unended, Heard, Over}
 use Rattle.session.specs.declared.session.Session.{Session}

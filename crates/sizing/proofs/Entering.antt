@@ -1,10 +1,7 @@
 -- What entering a route leaves: xs before, ys once the path is grown, zs at last. Assumes nothing.
-use Rattle.std.proofs.Common.{◌≡◌, ℕ, List, ◌∷◌}
-use Rattle.bits.specs.Rows.{Bits}
-use Rattle.refusal.specs.declared.Refusal.{Refusal}
-use Rattle.tree.specs.Tree.{Routes, Shape, shapes}
+use Rattle.std.proofs.Common.{List}
+use Rattle.tree.specs.Tree.{Shape, shapes}
 use Rattle.graph.specs.Slots.{Unfolds}
-use Rattle.graph.specs.Calls.{Kept}
 use Rattle.graph.specs.Keep.{KeptOnly, KeptFrom}
 use Rattle.graph.specs.View.{Holds}
 use Rattle.graph.specs.declared.edge.Edge.{Edge}

@@ -3,7 +3,7 @@ use Rattle.std.proofs.Common.{◌≡◌, ℕ, ◌+◌, ◌-◌, ◌<◌, ◌≤�
 use Rattle.std.proofs.lemmas.List.{drop_all, drop_more}
 use Rattle.bits.specs.Rows.{Bits}
 use Rattle.tree.specs.Tree.{Shape, leaf, fork, grown, leaves, shapes}
-use Rattle.graph.specs.Slots.{next, led, Unfolds, unfolds_end, unfolds_to}
+use Rattle.graph.specs.Slots.{next, led, Unfolds}
 use Rattle.graph.specs.declared.edge.Edge.{Edge}
 use Rattle.graph.specs.declared.edge.Edge.TheVariants.{End, To}
 use Rattle.graph.specs.declared.vertex.Vertex.{Vertex}

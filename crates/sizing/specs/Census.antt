@@ -7,7 +7,7 @@
 --   Entered c d p r     r is what entering the row p answers, c before and d after
 --   Took c d x r        r is what a line that stands for x answers, c before and d after
 --   Tells rs s          the summary s tells the numbers of the routes rs
-use Rattle.std.specs.Prelude.{◌≡◌, ℕ, suc, ◌+◌, ◌-◌, ◌^◌, ◌<◌, ◌≤◌, min, true, false, List, [], ◌∷◌, ◌++◌, length, Err, Result, MatchResult}
+use Rattle.std.specs.Prelude.{◌≡◌, ℕ, suc, ◌+◌, ◌-◌, ◌^◌, ◌<◌, ◌≤◌, min, true, false, [], ◌∷◌, ◌++◌, length, Err, Result, MatchResult}
 use Rattle.bits.specs.Lists.{different}
 use Rattle.bits.specs.Rows.{Bits}
 use Rattle.refusal.specs.declared.Refusal.{Refusal}

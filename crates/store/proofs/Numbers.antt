@@ -1,15 +1,13 @@
 -- How many rows a map has, and that a count of entries is that number. Assumes nothing.
-use Rattle.std.proofs.Common.{◌≡◌, ℕ, zero, suc, ◌+◌, ◌<◌, ◌≤◌, Bool, true, false, cond, ◌&&◌, ◌||◌, ◌≢◌, ◌⊎◌, List, [], ◌∷◌, ◌++◌, length, Some, None, Option, sym, refl, ap, ◌∙◌, subst, inl, inr, arith}
-use mathlib.Core.Logic.{∥∥₁_elim}
+use Rattle.std.proofs.Common.{◌≡◌, ℕ, zero, suc, Bool, true, false, List, [], ◌∷◌, length, Some, None, Option, sym, refl, ◌∙◌, inl, inr, arith}
 use Rattle.std.proofs.lemmas.Bool.{cases_Bool, true≢false, both_ways}
 use Rattle.bits.specs.Lists.{any}
 use Rattle.bits.specs.Rows.{Bits, same}
 use Rattle.bits.proofs.Fronts.{same_self}
 use Rattle.bits.proofs.Sets.{NoRepeats}
-use Rattle.bits.proofs.Tests.{same_is}
 use Rattle.net.specs.Prefix.{row_of}
-use Rattle.store.specs.Content.{Map, Listed, Counted, present}
-use Rattle.store.specs.Slots.{at, holds, told_by, taken, next, spot, told_at, told_in, used, Apart}
+use Rattle.store.specs.Content.{Listed, Counted, present}
+use Rattle.store.specs.Slots.{at, holds, told_by, spot, told_in, used, Apart}
 use Rattle.store.specs.declared.slot.Slot.{Slot}
 use Rattle.store.specs.declared.slot.Slot.TheVariants.{Free, Taken}
 use Rattle.store.proofs.Spots.{spot_holds, spot_absent}

@@ -1,18 +1,17 @@
 -- The calls on a flat row, by the content of its slots. Assumes nothing.
-use Rattle.std.proofs.Common.{◌≡◌, ℕ, zero, suc, ◌+◌, ◌<◌, ◌≤◌, min, Bool, true, false, cond, not, ◌&&◌, eqb, ◌≢◌, ◌⊎◌, List, [], ◌∷◌, length, set, Some, None, Ok, Err, Option, sym, refl, ap, ◌∙◌, subst, inl, inr, arith}
-use Rattle.std.proofs.lemmas.List.{length-set}
-use Rattle.std.proofs.lemmas.Bool.{cases_Bool, cases_eq, true≢false, both_ways}
+use Rattle.std.proofs.Common.{◌≡◌, ℕ, zero, suc, ◌+◌, ◌<◌, ◌≤◌, min, true, false, eqb, List, [], ◌∷◌, length, set, Some, None, Ok, Err, sym, refl, ap, ◌∙◌, inl, inr, arith}
+use Rattle.std.proofs.lemmas.Bool.{cases_Bool, true≢false, both_ways}
 use Rattle.std.proofs.lemmas.Bool.Decides.{nat_tests}
 use Rattle.bits.specs.Rows.{Bits, same}
 use Rattle.bits.proofs.Tests.{same_is}
 use Rattle.net.specs.Prefix.{row_of}
 use Rattle.net.specs.declared.prefix.Prefix.{Prefix}
 use Rattle.refusal.specs.declared.Refusal.TheVariants.{Hop, StoreFull}
-use Rattle.store.specs.Content.{Content, Told, absent, hop_told, present, size, bad_hop, put_refusal, Wrote, Puts, Removes, Empty, Sound}
-use Rattle.store.specs.Slots.{at, holds, told_by, taken, spot, told_at, told_in, used, Apart, Frees, row_content, RowKept}
+use Rattle.store.specs.Content.{Content, absent, present, bad_hop, Wrote, Puts, Removes, Empty, Sound}
+use Rattle.store.specs.Slots.{at, holds, told_by, taken, spot, told_at, told_in, used, Apart, row_content, RowKept}
 use Rattle.store.specs.declared.slot.Slot.{Slot}
 use Rattle.store.specs.declared.slot.Slot.TheVariants.{Free, Taken}
-use Rattle.store.proofs.Spots.{Of, of_free, of_entry, Site, site_held, site_free, Written, written, spot_holds, spot_none, not_taken, used_most}
+use Rattle.store.proofs.Spots.{of_free, of_entry, site_held, site_free, Written, written, spot_holds, spot_none, not_taken, used_most}
 use Rattle.store.proofs.Numbers.{used_counted}
 
 -- every slot is free

@@ -2,19 +2,16 @@
 --   Of q s         the slot is free or holds the row q
 --   Site xs q i    slot i is the place to write an entry of the row q: it is free or holds q, and no other slot holds q
 --   Written        what the write of s at a site leaves, xs before and ys after
-use Rattle.std.proofs.Common.{◌≡◌, ℕ, zero, suc, ◌+◌, ◌<◌, ◌≤◌, Bool, true, false, cond, ◌&&◌, ◌≢◌, ◌⊎◌, List, [], ◌∷◌, length, get_or, set, is_some, Some, None, Option, sym, refl, ap, ◌∙◌, subst, inl, inr, arith, get_or-set_other, get_or-set_same}
-use mathlib.Core.Logic.{∥∥₁_elim}
-use native.Mathlib.Nat.{ℕ_set}
+use Rattle.std.proofs.Common.{◌≡◌, ℕ, zero, suc, ◌+◌, ◌<◌, ◌≤◌, true, false, cond, ◌&&◌, ◌≢◌, List, [], ◌∷◌, length, get_or, set, is_some, Some, None, Option, sym, refl, ap, ◌∙◌, subst, inl, inr, arith, get_or-set_other, get_or-set_same}
 use Rattle.std.proofs.lemmas.List.{get_or_read}
 use Rattle.std.proofs.lemmas.Bool.{cases_Bool, cases_eq, true≢false, both_ways}
-use Rattle.bits.specs.Lists.{count}
 use Rattle.bits.specs.Rows.{Bits, same}
 use Rattle.bits.proofs.Fronts.{same_self}
 use Rattle.bits.proofs.Tests.{same_is}
 use Rattle.net.specs.Prefix.{row_of}
 use Rattle.net.specs.declared.prefix.Prefix.{Prefix}
-use Rattle.store.specs.Content.{Told, absent, size}
-use Rattle.store.specs.Slots.{at, holds, told_by, taken, next, spot, told_at, told_in, used, Apart}
+use Rattle.store.specs.Content.{size}
+use Rattle.store.specs.Slots.{at, holds, told_by, taken, spot, told_at, told_in, used, Apart}
 use Rattle.store.specs.declared.slot.Slot.{Slot}
 use Rattle.store.specs.declared.slot.Slot.TheVariants.{Free, Taken}
 

@@ -13,7 +13,7 @@
 --   Removes q a b t     what taking out the row q answers and leaves
 --   Empty c             the map has no row
 --   Sound k c           a store of this content is sound, where k is what its kind asks on top
-use Rattle.std.specs.Prelude.{◌≡◌, ℕ, ◌+◌, ◌≤◌, Bool, true, false, cond, not, ◌&&◌, ◌||◌, List, length, is_some, Some, None, Option, Result, MatchResult, ◌==◌}
+use Rattle.std.specs.Prelude.{◌≡◌, ℕ, ◌+◌, ◌≤◌, Bool, cond, not, ◌&&◌, List, length, is_some, Some, None, Option, Result, MatchResult, ◌==◌}
 use Rattle.bits.specs.Lists.{any}
 use Rattle.bits.specs.Rows.{Bits, same}
 use Rattle.bits.proofs.Sets.{NoRepeats}

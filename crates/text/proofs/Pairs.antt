@@ -1,8 +1,8 @@
 -- A hexadecimal field, read as two words. Assumes nothing.
-use Rattle.std.proofs.Common.{◌≡◌, ℕ, ◌+◌, ◌-◌, ◌*◌, ◌≤◌, min, Bool, true, false, cond, leb, ◌⊎◌, List, [], ◌∷◌, ◌++◌, length, take, drop, replicate, Some, None, Option, sym, refl, ap, ◌∙◌, subst, inl, inr, arith}
+use Rattle.std.proofs.Common.{◌≡◌, ℕ, ◌+◌, ◌-◌, ◌*◌, ◌≤◌, min, false, cond, leb, ◌⊎◌, List, [], ◌++◌, length, take, drop, replicate, Some, None, sym, refl, ap, ◌∙◌, inl, inr, arith}
 use Rattle.std.proofs.lemmas.List.{append_assoc, append-nil, length-append, length-take, length-drop, take-append-drop, take_rest, nil_from_length, replicate-append-replicate}
 use Rattle.std.proofs.lemmas.Bool.{le-leb, cases_lt}
-use Rattle.bits.specs.Rows.{Bits, halves, padded, word}
+use Rattle.bits.specs.Rows.{Bits, padded, word}
 use Rattle.bits.proofs.Words.{length_word}
 use Rattle.text.specs.Fields.{hex_row, Holds}
 use Rattle.text.proofs.Digits.{both, hex_append}

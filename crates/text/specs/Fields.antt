@@ -7,7 +7,7 @@
 --   hex_digit b        the value of a lower-case hexadecimal digit
 --   hex_row bs         the bits of lower-case hexadecimal digits, four for each
 --   Holds row h        the two halves h hold the row, which has up to 128 bits, and zeros behind it
-use Rattle.std.specs.Prelude.{◌≡◌, ℕ, suc, ◌+◌, ◌-◌, ◌*◌, Bool, true, false, cond, not, ◌&&◌, ◌||◌, List, [], ◌∷◌, ◌++◌, length, drop, Some, None, Option, ◌==◌, nat_le, nat_lt, slice_index}
+use Rattle.std.specs.Prelude.{◌≡◌, ℕ, suc, ◌+◌, ◌-◌, ◌*◌, Bool, cond, not, ◌&&◌, ◌||◌, List, [], ◌∷◌, ◌++◌, length, drop, Some, None, Option, ◌==◌, nat_le, nat_lt, slice_index}
 use Rattle.bits.specs.Rows.{Bits, halves, padded, word}
 
 abbrev pub one_more : Option ℕ → Option ℕ

@@ -11,8 +11,8 @@ use Rattle.tree.specs.Ledger.{stands, entered, vertices, new_shapes, together}
 use Rattle.tree.specs.Changes.{on_path}
 use Rattle.tree.specs.ShapeLaws.{Changed, by_entering, by_striking, brought}
 use Rattle.bits.proofs.Tests.{never}
-use Rattle.bits.proofs.Members.{any_join, length_only, count_most, has_member}
-use Rattle.bits.proofs.Sets.{any_only, different_by_members, different_mono, different_append, different_at_most}
+use Rattle.bits.proofs.Members.{any_join, has_member}
+use Rattle.bits.proofs.Sets.{any_only, different_by_members, different_mono, different_append}
 use Rattle.tree.proofs.Above.{over, above_is}
 use Rattle.tree.proofs.Shapes.{alike_equality}
 use Rattle.tree.proofs.Changes.{entering_beside, striking_beside}

@@ -1,5 +1,5 @@
 -- The leaves below a node, and what the leaves are once the tree has grown below one of them. Assumes nothing.
-use Rattle.std.proofs.Common.{◌≡◌, suc, ◌+◌, ◌-◌, Bool, true, false, not, ◌&&◌, ◌||◌, ◌⊎◌, ◌↔◌, [], ◌∷◌, ◌++◌, length, drop, sym, refl, ap, ◌∙◌, ap₂, inl, inr, append_assoc, arith, length-append}
+use Rattle.std.proofs.Common.{◌≡◌, suc, ◌-◌, Bool, true, false, not, ◌&&◌, ◌||◌, ◌⊎◌, ◌↔◌, [], ◌∷◌, ◌++◌, length, drop, sym, refl, ap, ◌∙◌, ap₂, inl, inr, append_assoc, arith, length-append}
 use mathlib.Core.Logic.{∥∥₁_elim}
 use mathlib.Core.List.{Mem, Mem-prop}
 use Rattle.std.proofs.lemmas.Bool.{true≢false, and_parts, and_from}

@@ -13,7 +13,7 @@ use Rattle.refusal.specs.declared.Refusal.TheVariants.{VerticesFull}
 use Rattle.bits.specs.Rows.{Bits, begins, any_one}
 use Rattle.tree.specs.Tree.{Route, Routes, matched, longest, hop_of}
 use Rattle.tree.specs.Graph.{Graph, Closed, EndsAtLeaves, OneForEach}
-use Rattle.tree.specs.Ledger.{Given, Call, announce, withdraw, lookup, count, Answer, hop, none, changed, counts, refused, greatest_hop, vertex_slots, stands, struck, entered, together, turn, after_calls, answers}
+use Rattle.tree.specs.Ledger.{Given, Call, announce, withdraw, lookup, count, Answer, none, counts, refused, greatest_hop, vertex_slots, stands, struck, entered, together, turn, after_calls, answers}
 
 abbrev pub Map : Type 0
 Map = Bits → Option ℕ

@@ -1,4 +1,4 @@
-use Rattle.std.proofs.Common.{sym, ap, arith}
+use Rattle.std.proofs.Common.{sym, ap}
 use Rattle.command.specs.Command.{counted}
 use Rattle.command.proofs.Cutting.{more_parts}
 use Rattle.command.proofs.count.Goals as goal

@@ -1,4 +1,4 @@
-use Rattle.std.proofs.Common.{◌≡◌, is_some, sym, ap, ◌∙◌, subst}
+use Rattle.std.proofs.Common.{is_some, sym, ap, ◌∙◌, subst}
 use Rattle.listing.specs.Listing.{Reads}
 use Rattle.listing.proofs.Lines.{no_comma, more_commas, two_fields}
 use Rattle.listing.proofs.prefix.Goals as goal

@@ -1,4 +1,4 @@
-use Rattle.std.proofs.Common.{◌≡◌, ◌⊎◌, length, take, sym, ap, ◌∙◌, subst, inl, inr, arith}
+use Rattle.std.proofs.Common.{◌≡◌, length, take, subst, inl, inr, arith}
 use Rattle.bits.specs.Rows.{halves}
 use Rattle.net.specs.Prefix.{Makes}
 use Rattle.listing.proofs.Lines.{read_known}

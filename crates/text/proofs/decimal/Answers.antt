@@ -1,7 +1,7 @@
-use Rattle.std.proofs.Common.{◌≡◌, ℕ, ◌+◌, ◌-◌, ◌*◌, ◌<◌, ◌≤◌, true, false, ◌⊎◌, length, get_or, sym, ap, ◌∙◌, subst, inl, inr, arith}
+use Rattle.std.proofs.Common.{◌≡◌, ℕ, ◌+◌, ◌*◌, ◌<◌, ◌≤◌, true, false, ◌⊎◌, sym, ◌∙◌, subst, inl, inr, arith}
 use Rattle.std.proofs.lemmas.Bool.Decides.{nat_tests}
 use Rattle.text.specs.Fields.{is_digit}
-use Rattle.text.proofs.Digits.{Written, written_more, written_bad, written_all, written_room, sized}
+use Rattle.text.proofs.Digits.{Written, written_more, written_bad, written_all, sized}
 use Rattle.text.proofs.decimal.Goals as goal
 use Rattle.text.proofs.decimal.Goals.{else-len-gt1-via-then-len-gt1+else-field-eq48, else-len-gt1-via-else-len-gt1, then-b-lt48-via-then-b-lt48, then-b-lt48-via-else-b-lt48+then-b-gt57}
 

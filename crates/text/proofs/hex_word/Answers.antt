@@ -1,4 +1,4 @@
-use Rattle.std.proofs.Common.{◌≡◌, ◌+◌, ◌*◌, ◌<◌, get_or, sym, ap, ◌∙◌, subst, arith}
+use Rattle.std.proofs.Common.{◌+◌, ◌*◌, get_or, sym, subst, arith}
 use Rattle.text.proofs.Digits.{HexWritten, hex_none, hex_more, hex_bad, hex_all, hex_room, hex_digit_small}
 use Rattle.text.proofs.hex_word.Goals as goal
 

@@ -1,5 +1,3 @@
-use Rattle.bits.specs.Rows.{word}
-use Rattle.std.proofs.Common.{◌*◌, length, take}
 use Rattle.text.proofs.Pairs.{first_bad, second_bad, both_good}
 use Rattle.text.proofs.hexadecimal.Goals as goal
 

@@ -1,6 +1,6 @@
 use Rattle.std.proofs.Common.{◌≡◌, ◌+◌, get_or, drop, sym, ap, ◌∙◌}
 use Rattle.std.proofs.lemmas.List.{at_drop_more, at_drop_all}
-use Rattle.chooser.specs.Fnv.{hashed, stirred, fnv1a}
+use Rattle.chooser.specs.Fnv.{hashed, stirred}
 use Rattle.chooser.proofs.fnv.fnv1a.Goals as goal
 
 pub loop-byte-preserved : goal.loop-byte-preserved

@@ -1,5 +1,5 @@
-use Rattle.std.proofs.Common.{◌≡◌, refl, ap, ◌∙◌, arith}
-use Rattle.chooser.specs.Fnv.{bytes_of, text_of}
+use Rattle.std.proofs.Common.{ap, ◌∙◌, arith}
+use Rattle.chooser.specs.Fnv.{bytes_of}
 use Rattle.chooser.proofs.Texts.{bytes_are, listed}
 use Rattle.net.proofs.Prefixes.{halves_are, length_row}
 use Rattle.chooser.proofs.fnv.text.Goals as goal

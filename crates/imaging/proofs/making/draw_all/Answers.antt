@@ -1,7 +1,7 @@
-use Rattle.std.proofs.Common.{◌*◌, length, sym, ap, subst, arith}
+use Rattle.std.proofs.Common.{◌*◌, length, ap, subst, arith}
 use Rattle.image.specs.Image.{edges_each}
 use Rattle.imaging.specs.Vertices.{Drawn}
-use Rattle.imaging.proofs.Drawing.{drawing_none, drawing_more, vertex_room}
+use Rattle.imaging.proofs.Drawing.{drawing_more, vertex_room}
 use Rattle.imaging.proofs.Picturing.{few, images}
 use Rattle.imaging.proofs.making.draw_all.Goals as goal
 

@@ -1,4 +1,4 @@
-use Rattle.std.proofs.Common.{◌≡◌, ℕ, ◌<◌, ◌≤◌, List, [], ◌++◌, length, drop, sym, ap, ◌∙◌, subst, arith}
+use Rattle.std.proofs.Common.{◌≡◌, ℕ, ◌≤◌, List, [], length, sym, ap, ◌∙◌, subst, arith}
 use Rattle.tree.specs.Ledger.{Answer, after_calls}
 use Rattle.engine.specs.Calls.{answer_of}
 use Rattle.line.specs.Reply.{written, shown}

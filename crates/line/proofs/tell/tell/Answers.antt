@@ -1,7 +1,7 @@
-use Rattle.std.proofs.Common.{◌≡◌, ℕ, List, sym, refl, ap, ◌∙◌, arith}
+use Rattle.std.proofs.Common.{◌≡◌, ℕ, refl, ap, ◌∙◌, arith}
 use Rattle.tree.specs.Ledger.{answers}
 use Rattle.engine.specs.Calls.{call_of, answer_of}
-use Rattle.line.specs.Line.{call, bad, read_line}
+use Rattle.line.specs.Line.{read_line}
 use Rattle.line.specs.Told.{line_calls}
 use Rattle.line.proofs.Telling.{tells_call, tells_bad}
 use Rattle.line.proofs.tell.tell.Goals as goal

@@ -1,8 +1,7 @@
-use Rattle.std.proofs.Common.{◌≡◌, ◌++◌, length, take, sym, refl, ap, ◌∙◌, subst, arith}
+use Rattle.std.proofs.Common.{◌≡◌, length, ap, ◌∙◌, subst, arith}
 use Rattle.std.proofs.lemmas.List.{take_all}
-use Rattle.std.proofs.lemmas.Bool.{lt-ltb}
 use Rattle.bits.specs.Rows.{Bits, halves, padded}
-use Rattle.net.specs.Prefix.{row_of, Makes}
+use Rattle.net.specs.Prefix.{Makes}
 use Rattle.net.proofs.Families.{makes_padded}
 use Rattle.net.proofs.family.network.Goals as goal
 

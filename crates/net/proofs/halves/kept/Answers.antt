@@ -1,4 +1,4 @@
-use Rattle.std.proofs.Common.{◌≡◌, ℕ, ◌-◌, ◌*◌, ◌/◌, ◌%◌, ◌^◌, ◌<◌, ◌≤◌, sym, ap, ◌∙◌, mod-eq_of_lt, arith}
+use Rattle.std.proofs.Common.{ℕ, ◌-◌, ◌*◌, ◌/◌, ◌^◌, ◌<◌, ap, ◌∙◌, mod-eq_of_lt, arith}
 use Rattle.bits.specs.Rows.{word}
 use Rattle.bits.proofs.Words.{kept_word, kept_whole, kept_fits, word_zeros}
 use Rattle.net.proofs.halves.kept.Goals as goal

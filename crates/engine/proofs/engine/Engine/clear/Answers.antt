@@ -1,4 +1,4 @@
-use Rattle.std.proofs.Common.{◌≡◌, true, sym, refl, ◌∙◌, subst}
+use Rattle.std.proofs.Common.{◌≡◌, true, sym, ◌∙◌, subst}
 use Rattle.net.specs.Prefix.{row_of}
 use Rattle.tree.specs.Tree.{pushed, above, shape_at}
 use Rattle.tree.specs.HopLaws.{Leaf}

@@ -1,7 +1,5 @@
-use Rattle.std.proofs.Common.{◌≡◌, ℕ, length, Some, None, sym, refl, ap, ◌∙◌}
-use Rattle.tree.specs.Ledger.{Given, looked}
-use Rattle.tree.specs.Tree.{Routes}
-use Rattle.tree.specs.LeafLaws.{AtMost}
+use Rattle.std.proofs.Common.{◌≡◌, length, sym, ap, ◌∙◌}
+use Rattle.tree.specs.Ledger.{looked}
 use Rattle.engine.proofs.Looking.{at_depth, always_ends}
 use Rattle.engine.proofs.engine.Engine.lookup.Goals as goal
 

@@ -1,4 +1,4 @@
-use Rattle.std.proofs.Common.{◌≡◌, List, [], sym, refl, ◌∙◌}
+use Rattle.std.proofs.Common.{◌≡◌, List, [], sym, ◌∙◌}
 use Rattle.graph.specs.Slots.{unfolds_end}
 use Rattle.graph.specs.View.{Holds}
 use Rattle.graph.specs.declared.edge.Edge.TheVariants.{End}

@@ -1,4 +1,4 @@
-use Rattle.std.proofs.Common.{◌≡◌, [], ◌∷◌, ◌++◌, sym, refl, ap, ◌∙◌, subst}
+use Rattle.std.proofs.Common.{[], ◌∷◌, ◌++◌, sym, subst}
 use Rattle.tree.specs.Ledger as l
 use Rattle.engine.specs.Calls.{call_of}
 use Rattle.engine.specs.Serves.{Ran}

@@ -1,7 +1,7 @@
-use Rattle.std.proofs.Common.{◌≡◌, ℕ, ◌+◌, true, List, sym, refl, ap, ◌∙◌, subst, arith}
+use Rattle.std.proofs.Common.{◌≡◌, ℕ, ◌+◌, true, List, sym, ◌∙◌, subst, arith}
 use Rattle.graph.specs.Slots.{led, at}
 use Rattle.graph.specs.declared.edge.Edge.{Edge}
-use Rattle.graph.specs.declared.edge.Edge.TheVariants.{End, To}
+use Rattle.graph.specs.declared.edge.Edge.TheVariants.{To}
 use Rattle.graph.specs.declared.vertex.Vertex.{Vertex}
 use Rattle.graph.proofs.Edges.{used_within}
 use Rattle.imaging.proofs.Counting.{Numbered, numbered_none, numbered_first, numbered_had, numbered_free, numbered_room, numbered_add, numbered_all, lead_used, led_end_free, led_to_used}

@@ -1,4 +1,4 @@
-use Rattle.std.proofs.Common.{◌≡◌, ℕ, ◌+◌, ◌-◌, ◌<◌, ◌≤◌, Bool, cond, length, sym, ap, ◌∙◌, arith, rules}
+use Rattle.std.proofs.Common.{◌<◌, ◌≤◌, Bool, cond, length, sym, ◌∙◌, arith, rules}
 use Rattle.std.proofs.lemmas.List.{length-set, set_past}
 use Rattle.store.specs.Slots.{taken}
 use Rattle.store.specs.declared.slot.Slot.TheVariants.{Free}

@@ -1,4 +1,4 @@
-use Rattle.std.proofs.Common.{◌≡◌, ◌+◌, set, Ok, sym, refl, ap, ◌∙◌, subst, arith}
+use Rattle.std.proofs.Common.{◌≡◌, ◌+◌, set, Ok, sym, refl, ◌∙◌, subst, arith}
 use Rattle.net.specs.Prefix.{row_of}
 use Rattle.store.specs.Content.{Puts}
 use Rattle.store.specs.declared.slot.Slot.TheVariants.{Taken}

@@ -1,4 +1,4 @@
-use Rattle.std.proofs.Common.{Some, None, Option, sym, refl, ap, ◌∙◌}
+use Rattle.std.proofs.Common.{sym, ◌∙◌}
 use Rattle.net.specs.Prefix.{row_of}
 use Rattle.store.proofs.Spots.{spot_is}
 use Rattle.layer.proofs.Buckets.{found_near, found_spot}

@@ -1,4 +1,4 @@
-use Rattle.std.proofs.Common.{◌≡◌, ℕ, ◌<◌, ◌≤◌, sym, refl, ap, ◌∙◌, subst, arith}
+use Rattle.std.proofs.Common.{◌≡◌, sym, ap, ◌∙◌, subst, arith}
 use Rattle.layer.specs.Buckets.{fill, choice, earliest_least, FreesIn}
 use Rattle.layer.proofs.Buckets.{choice_more, choice_first}
 use Rattle.layer.proofs.layer.Layer.room.Goals as goal

@@ -1,4 +1,4 @@
-use Rattle.std.proofs.Common.{◌≡◌, ℕ, ◌<◌}
+use Rattle.std.proofs.Common.{◌≡◌}
 use Rattle.layer.specs.Buckets.{fill, earliest_least}
 use Rattle.layer.proofs.layer.Layer.room.Given as goal
 

@@ -1,4 +1,4 @@
-use Rattle.std.proofs.Common.{ℕ, ◌+◌, ◌/◌, ◌%◌, List, [], ◌∷◌, decimal, sym, subst}
+use Rattle.std.proofs.Common.{◌+◌, ◌/◌, ◌%◌, [], ◌∷◌, decimal, sym, subst}
 use Rattle.line.specs.Reply.{Says}
 use Rattle.line.specs.declared.buffer.Buffer.{Buffer}
 use Rattle.line.proofs.Replies.{says_byte, says_digit, says_number}

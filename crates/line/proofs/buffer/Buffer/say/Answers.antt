@@ -1,4 +1,4 @@
-use Rattle.std.proofs.Common.{◌≡◌, ℕ, List, ◌++◌, codes, sym, ◌∙◌, subst}
+use Rattle.std.proofs.Common.{◌≡◌, ℕ, ◌++◌, codes, sym, ◌∙◌, subst}
 use Rattle.refusal.specs.Numbers.{number_of}
 use Rattle.engine.specs.Calls.{answer_of}
 use Rattle.engine.specs.declared.call.Answer.{Answer}

@@ -1,9 +1,8 @@
-use Rattle.std.proofs.Common.{◌≡◌, ◌<◌, ◌≤◌, true, false, ◌&&◌, leb, length, take, sym, refl, ap, ◌∙◌, arith}
+use Rattle.std.proofs.Common.{◌≡◌, ◌<◌, ◌≤◌, false, ◌&&◌, length, take, sym, ap, ◌∙◌, arith}
 use Rattle.std.proofs.lemmas.Bool.{le-leb, lt-leb}
 use Rattle.bits.specs.Rows.{Bits, begins, same}
 use Rattle.bits.proofs.Fronts.{begins_is}
 use Rattle.net.specs.Prefix.{row_of}
-use Rattle.net.specs.declared.prefix.Prefix.{Prefix}
 use Rattle.net.proofs.Prefixes.{length_row}
 use Rattle.net.proofs.prefix.Prefix.begins.Goals as goal
 

@@ -1,5 +1,5 @@
-use Rattle.std.proofs.Common.{◌≡◌, ℕ, ◌≤◌, min, length, take, sym, ap, ◌∙◌}
-use Rattle.bits.specs.Rows.{Bits, halves}
+use Rattle.std.proofs.Common.{◌≡◌, ℕ, min, take, sym, ap, ◌∙◌}
+use Rattle.bits.specs.Rows.{halves}
 use Rattle.net.specs.Prefix.{row_of}
 use Rattle.net.specs.declared.prefix.Prefix.{Prefix}
 use Rattle.net.specs.Rows.{take_both}

@@ -1,4 +1,4 @@
-use Rattle.std.proofs.Common.{◌≡◌, ℕ, ◌-◌, ◌≤◌, min, length, take, ap, ◌∙◌, arith}
+use Rattle.std.proofs.Common.{◌≡◌, ℕ, ◌-◌, ◌≤◌, min, take, ap, ◌∙◌, arith}
 use Rattle.bits.specs.Rows.{halves, padded, word}
 use Rattle.net.specs.Rows.{length_halves, halves_kept, take_min}
 use Rattle.net.proofs.Children.{length_front}

@@ -1,4 +1,4 @@
-use Rattle.std.proofs.Common.{◌≡◌, refl, inl, inr, ⊎_elim, arith}
+use Rattle.std.proofs.Common.{refl, inl, inr, ⊎_elim, arith}
 use Rattle.std.proofs.lemmas.Bool.{le-ltb}
 use Rattle.net.proofs.Prefixes.{none_lost, some_lost}
 use Rattle.net.proofs.prefix.Prefix.new.Goals as goal

@@ -1,5 +1,3 @@
-use Rattle.std.proofs.Common.{◌≡◌, ℕ, ◌≤◌, List, ◌++◌, length, take, drop}
-use Rattle.tree.specs.Ledger.{Given}
 use Rattle.session.proofs.Feeding.{FedSoFar}
 use Rattle.session.proofs.session.Session.feed.Given as goal
 

@@ -1,6 +1,5 @@
 use Rattle.std.proofs.Common.{◌≡◌, ℕ, List, [], ◌∷◌, length, take, sym, refl, ap, ◌∙◌, true≢false, arith}
 use Rattle.std.proofs.lemmas.Bool.{eq-eqb, eqb-true}
-use Rattle.line.specs.Reply.{shown}
 use Rattle.session.proofs.Sessions.{over_ended, over_line}
 use Rattle.session.proofs.session.Session.finish.Goals as goal
 

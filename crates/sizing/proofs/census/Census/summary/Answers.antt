@@ -1,4 +1,4 @@
-use Rattle.std.proofs.Common.{[], ◌∙◌, arith}
+use Rattle.std.proofs.Common.{[], arith}
 use Rattle.tree.specs.Tree.{pushed, shapes}
 use Rattle.sizing.proofs.Sizes.{leaves_number, nodes_number}
 use Rattle.sizing.proofs.census.Census.summary.Goals as goal

@@ -1,4 +1,4 @@
-use Rattle.std.proofs.Common.{◌≡◌, ℕ, ◌<◌, min, ◌≢◌, length, sym, ap, arith, get_or-set_other, get_or-set_same, below_more}
+use Rattle.std.proofs.Common.{◌<◌, min, ◌≢◌, length, sym, ap, arith, get_or-set_other, get_or-set_same, below_more}
 use Rattle.store.proofs.Rows.{row_empty, row_sound, used_none, apart_none}
 use Rattle.store.proofs.flat.FlatRow.new.Goals as goal
 

@@ -1,4 +1,4 @@
-use Rattle.std.proofs.Common.{◌≡◌, ℕ, ◌+◌, ◌-◌, ◌≤◌, min, sym, refl, ap, ◌∙◌, subst}
+use Rattle.std.proofs.Common.{◌+◌, ◌-◌, min, sym, refl, ap, ◌∙◌}
 use Rattle.layer.specs.Views.{SoundLayer}
 use Rattle.layer.proofs.Puts.{taken_own, taken_below, taken_as}
 use Rattle.layer.proofs.layer.calls.LayerStore.remove.Goals as goal

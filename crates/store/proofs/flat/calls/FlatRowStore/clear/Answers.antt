@@ -1,6 +1,5 @@
-use Rattle.std.proofs.Common.{ℕ, ◌<◌, min, ◌≢◌, length, set, sym, ap, ◌∙◌, arith, get_or-set_other, get_or-set_same, below_more}
+use Rattle.std.proofs.Common.{◌<◌, min, ◌≢◌, length, sym, ap, ◌∙◌, arith, get_or-set_other, get_or-set_same, below_more}
 use Rattle.std.proofs.lemmas.List.{length-set}
-use Rattle.store.specs.Slots.{at}
 use Rattle.store.specs.declared.slot.Slot.TheVariants.{Free}
 use Rattle.store.proofs.Rows.{row_empty, row_sound, used_none, apart_none}
 use Rattle.store.proofs.flat.calls.FlatRowStore.clear.Goals as goal

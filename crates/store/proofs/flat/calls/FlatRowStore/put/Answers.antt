@@ -1,10 +1,7 @@
-use Rattle.std.proofs.Common.{◌≡◌, ℕ, ◌<◌, ◌≤◌, min, false, length, set, sym, refl, ap, ◌∙◌, arith, rules}
+use Rattle.std.proofs.Common.{◌<◌, min, length, sym, refl, ap, arith, rules}
 use Rattle.std.proofs.lemmas.List.{length-set}
-use Rattle.std.proofs.lemmas.Bool.Decides.{nat_tests}
 use Rattle.net.specs.Prefix.{row_of}
-use Rattle.store.specs.Content.{bad_hop}
-use Rattle.store.specs.declared.slot.Slot.TheVariants.{Taken}
-use Rattle.store.proofs.Spots.{spot_holds, used_most}
+use Rattle.store.proofs.Spots.{spot_holds}
 use Rattle.store.proofs.Rows.{put_held, put_new, put_full, replaced, entered, all_taken, row_sound}
 use Rattle.store.proofs.flat.calls.FlatRowStore.put.Goals as goal
 

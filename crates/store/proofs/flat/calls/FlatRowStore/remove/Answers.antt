@@ -1,4 +1,4 @@
-use Rattle.std.proofs.Common.{◌<◌, min, length, set, sym, refl, ap, ◌∙◌, subst, arith, rules}
+use Rattle.std.proofs.Common.{◌<◌, min, length, set, sym, refl, ap, subst, arith, rules}
 use Rattle.std.proofs.lemmas.List.{length-set}
 use Rattle.net.specs.Prefix.{row_of}
 use Rattle.store.specs.Content.{Removes}
