@@ -158,14 +158,14 @@ module _ (g : Given) (rs : Routes) (own own' : Type 0) (routes leaf_store : Cont
     node_fits most = le-ltb _ _ (let n = node_number p h node in let k = stored.leaves_limit in let w = stored.leaves_sound.within in let m = stored.leaves_sound.most in omega (arith, counted, left, most))
 
   -- and below a leaf q
-  module _ (q p : Bits) (h : ℕ) (is_IsLeaf : Leaf rs q) (over : above q p ≡ true) (added room : ℕ) (counted : added ≡ cond (present (leaf_store.map q)) (length p - length q) 1) (left : room ≡ leaf_store.limit - leaf_store.held) where
+  module _ (q p : Bits) (h : ℕ) (is_leaf : Leaf rs q) (over : above q p ≡ true) (added room : ℕ) (counted : added ≡ cond (present (leaf_store.map q)) (length p - length q) 1) (left : room ≡ leaf_store.limit - leaf_store.held) where
     below_number : leaf_store.held + added ≡ length (matched (entered rs p h))
     below_number =
-        let is : present (leaf_store.map q) ≡ matches rs q = ap is_some (stored.leaf_hops q ∙ entry_leaf rs q is_IsLeaf) ∙ some_hop rs q in
+        let is : present (leaf_store.map q) ≡ matches rs q = ap is_some (stored.leaf_hops q ∙ entry_leaf rs q is_leaf) ∙ some_hop rs q in
         let held = stored.leaves_held in
         elim (cases_Bool (matches rs q)) [
-          | inl m ↦ (let b = below_matched rs q p h is_IsLeaf over m in let c : added ≡ length p - length q = counted ∙ ap (λ b. cond b (length p - length q) 1) (is ∙ m) in omega arith)
-          | inr m ↦ (let b = below_unmatched rs q p h is_IsLeaf over m in let c : added ≡ 1 = counted ∙ ap (λ b. cond b (length p - length q) 1) (is ∙ m) in omega arith)
+          | inl m ↦ (let b = below_matched rs q p h is_leaf over m in let c : added ≡ length p - length q = counted ∙ ap (λ b. cond b (length p - length q) 1) (is ∙ m) in omega arith)
+          | inr m ↦ (let b = below_unmatched rs q p h is_leaf over m in let c : added ≡ 1 = counted ∙ ap (λ b. cond b (length p - length q) 1) (is ∙ m) in omega arith)
         ]
 
     pub below_full : room < added → ltb g.leaf_limit (length (matched (entered rs p h))) ≡ true

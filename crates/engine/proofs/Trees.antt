@@ -77,15 +77,15 @@ pub bare_below : (rs : Routes) (q v : Bits) → Leaf rs q → above q v ≡ true
 bare_below rs q v l h = unbranched rs q v ((leaf_nodes rs q).0 l).1 h
 
 -- what painting reaches below a leaf's node, once the tree has grown to p
-module _ (rs : Routes) (q p : Bits) (is_IsLeaf : Leaf rs q) (over : above q p ≡ true) where
+module _ (rs : Routes) (q p : Bits) (is_leaf : Leaf rs q) (over : above q p ≡ true) where
   whole : p ≡ q ++ drop (length q) p
   whole = begins_rest q p (and_parts _ _ over).1
 
   pub split_shape : shape_at (grown p (pushed rs)) q ≡ grown (drop (length q) p) leaf
-  split_shape = ap (λ r. shape_at (grown r (pushed rs)) q) whole ∙ shape_grown (pushed rs) q (drop (length q) p) ((leaf_ends (pushed rs) q).0 is_IsLeaf)
+  split_shape = ap (λ r. shape_at (grown r (pushed rs)) q) whole ∙ shape_grown (pushed rs) q (drop (length q) p) ((leaf_ends (pushed rs) q).0 is_leaf)
 
   pub split_node : has_node (grown p (pushed rs)) q ≡ true
-  split_node = ap (λ r. has_node (grown r (pushed rs)) q) whole ∙ node_grown (pushed rs) q (drop (length q) p) ((leaf_ends (pushed rs) q).0 is_IsLeaf)
+  split_node = ap (λ r. has_node (grown r (pushed rs)) q) whole ∙ node_grown (pushed rs) q (drop (length q) p) ((leaf_ends (pushed rs) q).0 is_leaf)
 
   pub split_painted : painted (stands rs) (shape_at (grown p (pushed rs)) q) q ≡ twigs q p
-  split_painted = rw split_shape (painted_all (stands rs) (grown (drop (length q) p) leaf) q (λ v h. bare_below rs q v is_IsLeaf h))
+  split_painted = rw split_shape (painted_all (stands rs) (grown (drop (length q) p) leaf) q (λ v h. bare_below rs q v is_leaf h))

@@ -98,20 +98,20 @@ module _ (g : Given) (rs : Routes) (own own' : Type 0) (routes leaf_store : Cont
         → Puts p h two leaves' r → leaves'.limit ≡ two.limit → Sound own_l leaves'
         → Puts p h routes routes' r' → routes'.limit ≡ routes.limit → Sound own_r routes'
         → Stored g (entered rs p h) own_r own_l routes' leaves'
-    sets_below h start spot had one two own_1 own_2 ok r r' after is_IsLeaf leads removes l1 s1 descends paints l2 s2 puts l3 s3 puts' lr sr =
+    sets_below h start spot had one two own_1 own_2 ok r r' after is_leaf leads removes l1 s1 descends paints l2 s2 puts l3 s3 puts' lr sr =
         stored_by g (entered rs p h) own_r own_l routes' leaves' after
         sr (put_told g rs own own' routes leaf_store stored p h routes' (put_done p h routes routes' r' (routes_free h after) puts')) (lr ∙ stored.routes_limit)
         s3 rows (l3 ∙ l2 ∙ l1 ∙ stored.leaves_limit)
       where
         node : has_node (pushed (entered rs p h)) q ≡ true
-        node = ap (λ t. has_node t q) (entering rs p h) ∙ split_node rs q p is_IsLeaf over
+        node = ap (λ t. has_node t q) (entering rs p h) ∙ split_node rs q p is_leaf over
 
         had_is : had ≡ leaf_entry rs q
         had_is = removes.answer ∙ stored.leaf_hops q
 
         reached : painted (has routes.map) (shape_at (pushed (entered rs p h)) q) q ≡ twigs q p
         reached = ap (λ f. painted f (shape_at (pushed (entered rs p h)) q) q) (has_routes g rs own own' routes leaf_store stored)
-            ∙ ap (λ t. painted (stands rs) (shape_at t q) q) (entering rs p h) ∙ split_painted rs q p is_IsLeaf over
+            ∙ ap (λ t. painted (stands rs) (shape_at t q) q) (entering rs p h) ∙ split_painted rs q p is_leaf over
 
         paint : Painted (twigs q p) had one two ok
         paint = subst (λ xs. Painted xs had one two ok) reached
@@ -120,7 +120,7 @@ module _ (g : Given) (rs : Routes) (own own' : Type 0) (routes leaf_store : Cont
             (fits g.width (entered rs p h) q after.short narrow node))
 
         is_matched : is_some had ≡ matches rs q
-        is_matched = ap is_some (had_is ∙ entry_leaf rs q is_IsLeaf) ∙ some_hop rs q
+        is_matched = ap is_some (had_is ∙ entry_leaf rs q is_leaf) ∙ some_hop rs q
 
         front : begins q p ≡ true
         front = (and_parts (ltb (length q) (length p)) (begins q p) over).1
@@ -130,7 +130,7 @@ module _ (g : Given) (rs : Routes) (own own' : Type 0) (routes leaf_store : Cont
             let n = removes.taken.number in
             let here : is_some (leaf_store.map q) ≡ true = ap is_some (sym removes.answer) ∙ there in
             let one_less : one.held + 1 ≡ leaf_store.held = count_out (leaf_store.map q) here n in
-            let more = below_matched rs q p h is_IsLeaf over (sym is_matched ∙ there) in
+            let more = below_matched rs q p h is_leaf over (sym is_matched ∙ there) in
             let long = twigs_number q p front in
             let most = count_most (missing one.map) (twigs q p) in
             let held = stored.leaves_held in
@@ -146,7 +146,7 @@ module _ (g : Given) (rs : Routes) (own own' : Type 0) (routes leaf_store : Cont
 
         -- p is one of the new leaves
         new : any (same p) (twigs q p) ≡ true
-        new = (has_row p _).0 (hops.enters_below rs q p h is_IsLeaf over).new_leaf
+        new = (has_row p _).0 (hops.enters_below rs q p h is_leaf over).new_leaf
 
         free : put_refusal two p h ≡ None
         free = free_at two p h (entered_good g rs p h after) (elim (cases_Bool (is_some had)) [ inl there ↦ present_there there | inr away ↦ room_there away ])
@@ -162,7 +162,7 @@ module _ (g : Given) (rs : Routes) (own own' : Type 0) (routes leaf_store : Cont
                 let n = removes.taken.number in
                 let k = paint.number done in
                 let none : count (λ (_ : Bits). present had) (twigs q p) ≡ 0 = rw away (count_none (twigs q p)) in
-                let more = below_unmatched rs q p h is_IsLeaf over (sym is_matched ∙ away) in
+                let more = below_unmatched rs q p h is_leaf over (sym is_matched ∙ away) in
                 let held = stored.leaves_held in
                 let fit = after.leaves_fit in
                 let limit = stored.leaves_limit in
@@ -176,7 +176,7 @@ module _ (g : Given) (rs : Routes) (own own' : Type 0) (routes leaf_store : Cont
             ∙ ap (cond (same u p) (Some h)) (paint.rows done u
             ∙ ap (λ o. cond (any (same u) (twigs q p)) o (one.map u)) had_is
             ∙ ap (cond (any (same u) (twigs q p)) (leaf_entry rs q)) (removes.taken.rows u ∙ ap (cond (same u q) None) (stored.leaf_hops u)))
-            ∙ sym (split_entries rs (entered rs p h) q p (Some h) (hops.enters_below rs q p h is_IsLeaf over) u)
+            ∙ sym (split_entries rs (entered rs p h) q p (Some h) (hops.enters_below rs q p h is_leaf over) u)
 
     -- q is a leaf again: what lies below it is erased, then it gets the hop that is left
     pub clears_below : (next : Option ℕ) (start : Edge) (spot : Spot) (t : Option ℕ) (one : Content) (own_1 : Type 0) (ok ok' : Bool)
@@ -186,7 +186,7 @@ module _ (g : Given) (rs : Routes) (own own' : Type 0) (routes leaf_store : Cont
         → Paints routes'.map slots (led slots spot.edge) q None leaf_store one ok → one.limit ≡ leaf_store.limit → Sound own_1 one
         → Paints routes'.map slots (led slots End) q next one leaves' ok' → leaves'.limit ≡ one.limit → Sound own_l leaves'
         → Stored g (struck rs p) own_r own_l routes' leaves'
-    clears_below next start spot t one own_1 ok ok' after s is_IsLeaf leads is removes lr sr descends erases l1 s1 paints l2 s2 =
+    clears_below next start spot t one own_1 ok ok' after s is_leaf leads is removes lr sr descends erases l1 s1 paints l2 s2 =
         stored_by g (struck rs p) own_r own_l routes' leaves' after sr told (lr ∙ stored.routes_limit) s2 rows (l2 ∙ l1 ∙ stored.leaves_limit)
       where
         told : (u : Bits) → routes'.map u ≡ hop_at (struck rs p) u
@@ -199,10 +199,10 @@ module _ (g : Given) (rs : Routes) (own own' : Type 0) (routes leaf_store : Cont
         back = sym (undoing rs p s)
 
         node : has_node (pushed rs) q ≡ true
-        node = ap (λ t. has_node t q) back ∙ split_node (struck rs p) q p is_IsLeaf over
+        node = ap (λ t. has_node t q) back ∙ split_node (struck rs p) q p is_leaf over
 
         reached : painted (has routes'.map) (shape_at (pushed rs) q) q ≡ twigs q p
-        reached = ap (λ f. painted f (shape_at (pushed rs) q) q) own_is ∙ ap (λ t. painted (stands (struck rs p)) (shape_at t q) q) back ∙ split_painted (struck rs p) q p is_IsLeaf over
+        reached = ap (λ f. painted f (shape_at (pushed rs) q) q) own_is ∙ ap (λ t. painted (stands (struck rs p)) (shape_at t q) q) back ∙ split_painted (struck rs p) q p is_leaf over
 
         erase : Painted (twigs q p) None leaf_store one ok
         erase = subst (λ xs. Painted xs None leaf_store one ok) reached
@@ -218,11 +218,11 @@ module _ (g : Given) (rs : Routes) (own own' : Type 0) (routes leaf_store : Cont
         gone = erase.none refl
 
         new : any (same p) (twigs q p) ≡ true
-        new = (has_row p _).0 (hops.enters_below (struck rs p) q p 0 is_IsLeaf over).new_leaf
+        new = (has_row p _).0 (hops.enters_below (struck rs p) q p 0 is_leaf over).new_leaf
 
         here : has leaf_store.map p ≡ true
         here =
-            let is_new = hops.enters_below (struck rs p) q p 0 is_IsLeaf over in
+            let is_new = hops.enters_below (struck rs p) q p 0 is_leaf over in
             let there : Leaf (entered (struck rs p) p 0) p = (is_new.leaves p).1 ∣ inr is_new.new_leaf ∣₁ in
             let standing : Leaf rs p = subst (λ t. Mem p (leaves t [])) (entering (struck rs p) p 0 ∙ undoing rs p s) there in
             ap is_some (stored.leaf_hops p ∙ entry_leaf rs p standing) ∙ some_hop rs p ∙ stands_matches rs p s
@@ -245,7 +245,7 @@ module _ (g : Given) (rs : Routes) (own own' : Type 0) (routes leaf_store : Cont
             ∙ ap (λ b. cond b next (one.map u)) (or_none (same u q))
             ∙ ap (λ o. cond (same u q) o (one.map u)) is
             ∙ ap (cond (same u q) (leaf_hop (struck rs p) p)) (erase.rows gone u ∙ ap (cond (any (same u) (twigs q p)) None) (stored.leaf_hops u))
-            ∙ sym (fold_entries rs (struck rs p) q p (hops.strikes_below rs q p s is_IsLeaf over) u)
+            ∙ sym (fold_entries rs (struck rs p) q p (hops.strikes_below rs q p s is_leaf over) u)
           where
             or_none : (b : Bool) → any (λ (c : Bool). c) (b ∷ []) ≡ b
             or_none true = refl

@@ -61,14 +61,14 @@ module _ (edge : ℕ → Bool → Edge) where
   down_end (to v) (b ∷ p) d h = let (k, o, m) = more_some (walk edge (edge v b) p) d h in down_end (edge v b) p k o
 
   -- those of any other lead to a vertex, from where it goes on
-  pub record Goes_on (e : Edge) (p q : Bits) (d : ℕ) : Type 0 where
+  pub record GoesOn (e : Edge) (p q : Bits) (d : ℕ) : Type 0 where
     pub vertex : ℕ
     pub left : ℕ
     pub down_to : down edge e p ≡ to vertex
     pub walks : walk edge (to vertex) q ≡ Some left
     pub all : d ≡ length p + left
 
-  pub walk_goes_on : (e : Edge) (p q : Bits) (d : ℕ) → walk edge e p ≡ None → walk edge e (p ++ q) ≡ Some d → Goes_on e p q d
+  pub walk_goes_on : (e : Edge) (p q : Bits) (d : ℕ) → walk edge e p ≡ None → walk edge e (p ++ q) ≡ Some d → GoesOn e p q d
   walk_goes_on end p q d n h = never (sym n)
   walk_goes_on (to v) [] q d n h = record { vertex = v; left = d; down_to = refl; walks = h; all = omega arith }
   walk_goes_on (to v) (b ∷ p) q d n h =
@@ -117,11 +117,11 @@ module _ (edge : ℕ → Bool → Edge) (e : Edge) (s : ℕ) (a : Bits) (d : ℕ
           cc
 
   -- where they don't, it has them all, and goes on behind them
-  pub next_goes_on : walk edge e (padded s (take s a)) ≡ None → Goes_on edge e (padded s (take s a)) (drop s a) d
+  pub next_goes_on : walk edge e (padded s (take s a)) ≡ None → GoesOn edge e (padded s (take s a)) (drop s a) d
   next_goes_on h = elim (cases_lt (length a) s) [ inl l ↦ short l | inr l ↦ long l ]
     where
-      short : length a < s → Goes_on edge e (padded s (take s a)) (drop s a) d
+      short : length a < s → GoesOn edge e (padded s (take s a)) (drop s a) d
       short l = never (sym h ∙ ap (walk edge e) (next_short s a (omega arith)) ∙ walk_append edge e a (replicate (s - length a) false) d ends)
 
-      long : s ≤ length a → Goes_on edge e (padded s (take s a)) (drop s a) d
+      long : s ≤ length a → GoesOn edge e (padded s (take s a)) (drop s a) d
       long l = walk_goes_on edge e (padded s (take s a)) (drop s a) d h (rw (next_whole s a l, take-append-drop) ends)

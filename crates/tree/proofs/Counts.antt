@@ -63,7 +63,7 @@ matches_near [] q a h n = refl
 matches_near (r ∷ rs) q a h n = let ih = matches_near rs q a in let same_match = within r.at q a in grind arith
 
 -- below the leaf q
-module _ (rs : Routes) (q p : Bits) (h : ℕ) (is_IsLeaf : Leaf rs q) (o : above q p ≡ true) where
+module _ (rs : Routes) (q p : Bits) (h : ℕ) (is_leaf : Leaf rs q) (o : above q p ≡ true) where
   abbrev w : Bits
   w = drop (length q) p
 
@@ -71,12 +71,12 @@ module _ (rs : Routes) (q p : Bits) (h : ℕ) (is_IsLeaf : Leaf rs q) (o : above
   more r = tally (λ u. matches rs u || begins r u) (grown r (pushed rs))
 
   row : p ≡ q ++ w
-  row = whole (pushed rs) q p ((leaf_ends (pushed rs) q).0 is_IsLeaf) (sym (above_is q p) ∙ o)
+  row = whole (pushed rs) q p ((leaf_ends (pushed rs) q).0 is_leaf) (sym (above_is q p) ∙ o)
 
   enters_below : held (entered rs p h) + cond (matches rs q) 1 0 ≡ held rs + cond (matches rs q) (suc (length w)) 1
   enters_below =
-      let near : (u : Bits) → matches rs (q ++ u) ≡ matches rs q = λ u. matches_near rs q (q ++ u) (begins_join q u) (nothing_below rs q is_IsLeaf) in
-      let parts = below_tally q w (pushed rs) (matches rs) (matches rs q) ((leaf_ends (pushed rs) q).0 is_IsLeaf) near in
+      let near : (u : Bits) → matches rs (q ++ u) ≡ matches rs q = λ u. matches_near rs q (q ++ u) (begins_join q u) (nothing_below rs q is_leaf) in
+      let parts = below_tally q w (pushed rs) (matches rs) (matches rs q) ((leaf_ends (pushed rs) q).0 is_leaf) near in
       let all : held (entered rs p h) ≡ more (q ++ w) = held_entered rs p h ∙ ap more row in
       let old = held_is rs in
       omega arith

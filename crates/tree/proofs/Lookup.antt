@@ -20,9 +20,9 @@ pub no_branch : (rs : Routes) (q a : Bits) → begins q a ≡ true → any (λ r
 no_branch [] q a h n = refl
 no_branch (r ∷ rs) q a h n = let ih = no_branch rs q a in let same_match = within r.at q a in grind arith
 
-module _ (rs : Routes) (q : Bits) (is_IsLeaf : Mem q (leaves (pushed rs) [])) where
+module _ (rs : Routes) (q : Bits) (is_leaf : Mem q (leaves (pushed rs) [])) where
   pub nothing_below : any (λ r. over q r.at) rs ≡ false
-  nothing_below = sym (branching_is rs q) ∙ sym (pushed_is rs q) ∙ ((leaf_is (pushed rs) q).0 is_IsLeaf).ends
+  nothing_below = sym (branching_is rs q) ∙ sym (pushed_is rs q) ∙ ((leaf_is (pushed rs) q).0 is_leaf).ends
 
   -- no route that begins with a leaf is longer than the leaf
   pub no_longer : (r : Route) → Mem r rs → begins q r.at ≡ true → length r.at ≤ length q

@@ -48,9 +48,9 @@ some_hop rs q = go (hop_of (longest rs q)) refl
     go None e = sym ((unmatched_is rs q).0 e)
     go (Some h) e = elim (cases_Bool (matches rs q)) [ inl k ↦ sym k | inr k ↦ (let n = (unmatched_is rs q).1 k in cc) ]
 
-module _ (rs : Routes) (a q : Bits) (is_IsLeaf : Mem q (leaves (pushed rs) [])) (front : begins q a ≡ true) where
+module _ (rs : Routes) (a q : Bits) (is_leaf : Mem q (leaves (pushed rs) [])) (front : begins q a ≡ true) where
   pub match_by_leaf : longest rs q ≡ longest rs a
-  match_by_leaf = sym (longest_by_leaf rs q is_IsLeaf a front)
+  match_by_leaf = sym (longest_by_leaf rs q is_leaf a front)
 
   pub none_by_leaf : (hop_of (longest rs q) ≡ None) ↔ Unmatched rs a
   none_by_leaf = (λ e. (longest_none rs a).0 (sym match_by_leaf ∙ no_hop _ e), λ u. ap hop_of (match_by_leaf ∙ (longest_none rs a).1 u))

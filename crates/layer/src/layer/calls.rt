@@ -1,7 +1,7 @@
 // The calls on a layer. Where an entry goes is promised; only the slot inside a bucket and the bucket of last resort are left open.
 ghost use Rattle.std.specs.Prelude.{◌≡◌, ◌+◌, min};
 ghost use Rattle.net.specs.Prefix.{row_of};
-ghost use Rattle.store.specs.Content.{Empty, Puts, Removes};
+ghost use Rattle.store.specs.Content.{Empty, Puts, Removes, Sound};
 ghost use Rattle.layer.specs.Buckets.{strays_in};
 ghost use Rattle.layer.specs.Layers.{Fresh};
 ghost use Rattle.layer.specs.Places.{PutsIn};
@@ -82,6 +82,17 @@ impl<C: Chooser, S: Store> Layer<C, S> {
         self.strays = self.strays.saturating_add(1);
         Ok(())
     }
+
+    // Empties the store below, and leaves the buckets as they are.
+    fn clear_below(&mut self)
+        ensures buckets { self.new.buckets ≡ self.old.buckets }
+        ensures strays { self.new.strays ≡ self.old.strays }
+        ensures limits { (S.Store.content self.new.below).limit ≡ (S.Store.content self.old.below).limit }
+        ensures keeps { Sound (S.Store.kept self.new.below) (S.Store.content self.new.below) }
+        ensures empties { Empty (S.Store.content self.new.below) }
+    {
+        self.below.clear();
+    }
 }
 
 impl<C: Chooser, S: Store> Store for Layer<C, S> {
@@ -144,6 +155,6 @@ impl<C: Chooser, S: Store> Store for Layer<C, S> {
     fn clear(&mut self) {
         self.buckets = Buckets::empty();
         self.strays = 0;
-        self.below.clear();
+        self.clear_below();
     }
 }

@@ -30,6 +30,6 @@ returns g c = record {
       let e = c.args.self.now in
       let p = row_of c.args.at.now in
       let spot = c.descend-spot.ensures (pushed (struck rs p)) (taken leads) in
-      let (is_IsLeaf, over) = spot_leaf e.table.slots (struck rs p) p c.descend-spot.result spot (λ k. c.if-spot-len.false (k ∙ sym c.len.ensures)) in
-      c.clear_below.ensures.clears given rs w stands (subst (Leaf (struck rs p)) (sym c.front-leaf.ensures) is_IsLeaf) (subst (λ q. above q p ≡ true) (sym c.front-leaf.ensures) over) old is;
+      let (is_leaf, over) = spot_leaf e.table.slots (struck rs p) p c.descend-spot.result spot (λ k. c.if-spot-len.false (k ∙ sym c.len.ensures)) in
+      c.clear_below.ensures.clears given rs w stands (subst (Leaf (struck rs p)) (sym c.front-leaf.ensures) is_leaf) (subst (λ q. above q p ≡ true) (sym c.front-leaf.ensures) over) old is;
 }

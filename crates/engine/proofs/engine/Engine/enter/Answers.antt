@@ -52,5 +52,5 @@ returns g c = λ given rs ready new.
     let b = s.routes_limit in
     let room : eqb (length rs) given.route_limit ≡ false = grind (arith, nat_tests) in
     let spot = c.descend-spot.ensures (pushed rs) (taken ready.serves.starts) in
-    let (is_IsLeaf, over) = spot_leaf e.table.slots rs p c.descend-spot.result spot (λ k. c.if-spot-len.false (k ∙ sym c.len.ensures)) in
-    c.enter_below.ensures given rs ready room (subst (Leaf rs) (sym c.front-leaf.ensures) is_IsLeaf) (subst (λ q. above q p ≡ true) (sym c.front-leaf.ensures) over)
+    let (is_leaf, over) = spot_leaf e.table.slots rs p c.descend-spot.result spot (λ k. c.if-spot-len.false (k ∙ sym c.len.ensures)) in
+    c.enter_below.ensures given rs ready room (subst (Leaf rs) (sym c.front-leaf.ensures) is_leaf) (subst (λ q. above q p ≡ true) (sym c.front-leaf.ensures) over)

@@ -16,14 +16,14 @@ returns g c =
     record {
       table = refl;
       start = refl;
-      sets = λ given rs w is_IsLeaf over leads.
+      sets = λ given rs w is_leaf over leads.
           let s = w.stored in
           let s1 = c.remove-had.ensures.keeps s.leaves_sound in
           let s2 = c.paint.ensures.keeps s1 in
           sets_below given rs (g.R.Store.kept e.routes) (g.L.Store.kept e.leaves) (g.R.Store.content e.routes) (g.L.Store.content e.leaves) w.narrow w.before s
           e.table.slots p (g.R.Store.kept routes) (g.L.Store.kept leaves) (g.R.Store.content routes) (g.L.Store.content leaves) q over
           c.args.hop c.args.start c.descend-spot.result c.remove-had.result (g.L.Store.content one) (g.L.Store.content two) (g.L.Store.kept one) (g.L.Store.kept two)
-          (is_ok c.paint.result) c.put.result c.put-2.result w.after is_IsLeaf leads
+          (is_ok c.paint.result) c.put.result c.put-2.result w.after is_leaf leads
           (c.remove-had.ensures.removes s.leaves_sound) c.remove-had.ensures.limits s1
           c.descend-spot.ensures
           (c.paint.ensures.paints s.routes_sound s1) c.paint.ensures.limits s2
