@@ -1,13 +1,10 @@
 -- Beginnings of rows, and rows filled up with zeros. Assumes nothing.
-use Rattle.std.proofs.Common.{◌≡◌, ℕ, zero, suc, ◌+◌, ◌-◌, ◌<◌, ◌≤◌, true, false, ◌&&◌, leb, [], ◌∷◌, ◌++◌, length, get_or, take, drop, replicate, refl, ap, ◌∙◌, inl, inr, arith}
+use Rattle.std.proofs.Common.{◌≡◌, ℕ, zero, suc, ◌+◌, ◌-◌, ◌<◌, ◌≤◌, false, ◌&&◌, leb, [], ◌∷◌, ◌++◌, length, get_or, take, drop, replicate, refl, ap, ◌∙◌, inl, inr, arith}
 use Rattle.std.proofs.lemmas.List.{append-nil, append_assoc, length-append, length-take, length-replicate, take_all, take-append-le, take_at, drop_at, replicate-append-replicate}
 use Rattle.std.proofs.lemmas.Bool.{cases_lt}
 use Rattle.std.proofs.lemmas.Bool.Decides.{nat_tests}
 use Rattle.bits.specs.Rows.{Bits, same, begins, any_one, padded}
-
-pub same_self : (p : Bits) → same p p ≡ true
-same_self [] = refl
-same_self (b ∷ p) = let ih = same_self p in grind arith
+pub use Rattle.bits.proofs.Members.{same_self}
 
 -- q begins with p: it is no shorter, and its first bits are p
 pub begins_is : (p q : Bits) → begins p q ≡ (leb (length p) (length q) && same p (take (length p) q))

@@ -5,3 +5,5 @@ pub mod Words
 pub mod Members
 pub mod Each
 pub mod Begins
+pub mod Pairs
+pub mod Extended

@@ -5,59 +5,86 @@
 use chooser::{Fnv, Fold, Load, buckets};
 use net::Prefix;
 use refusal::Refusal;
-use std::io;
-use std::io::Read;
-use text::Lines;
+use std::io::{BufRead, BufReader};
+use std::{fmt, io};
+use tally::Count;
 
+// What was seen of the lines so far.
 #[derive(Drop)]
 struct Report {
-    lines: u64,
-    taken: u64,
+    lines: Count,
+    taken: Count,
     fnv: Load,
     fold: Load,
 }
 
-fn show_prefix(rt: &HostRuntime, report: &mut Report, prefix: &Prefix) -> io::Result<()> {
-    let [a, b, c, d] = buckets(&Fnv, prefix);
-    let [e, f, g, h] = buckets(&Fold, prefix);
-    report.taken = report.taken.saturating_add(1);
-    report.fnv.note(a);
-    report.fold.note(e);
-    println!(rt; "fnv {a} {b} {c} {d} fold {e} {f} {g} {h}")
-}
+// What a line is told: the buckets of its prefix at the four tries, by each chooser, or why it is refused.
+#[derive(Clone, Copy)]
+struct Told(Result<([u8; 4], [u8; 4]), Refusal>);
 
-fn show_refusal(rt: &HostRuntime, refusal: Refusal) -> io::Result<()> {
-    let number = refusal.number();
-    let word = refusal.word();
-    match refusal {
-        Refusal::Field { column } => println!(rt; "no {number} {word} at column {column}"),
-        _ => println!(rt; "no {number} {word}"),
+impl fmt::Display for Told {
+    fn fmt<W: fmt::Write>(&self, f: &mut fmt::Formatter<W>) -> fmt::Result {
+        match self.0 {
+            Ok(both) => {
+                let [a, b, c, d] = both.0;
+                let [p, q, r, s] = both.1;
+                write!(f, "fnv {a} {b} {c} {d} fold {p} {q} {r} {s}")
+            }
+            Err(refusal) => {
+                let number = refusal.number();
+                write!(f, "no {number} {refusal}")?;
+                match refusal {
+                    Refusal::Field { column } => write!(f, " at column {column}"),
+                    _ => Ok(()),
+                }
+            }
+        }
     }
 }
 
-fn show_line(rt: &HostRuntime, report: &mut Report, line: &[u8]) -> io::Result<()> {
-    report.lines = report.lines.saturating_add(1);
-    match listing::prefix(line) {
-        Ok(prefix) => show_prefix(rt, report, &prefix),
-        Err(refusal) => show_refusal(rt, refusal),
+impl Report {
+    fn new() -> Report {
+        Report {
+            lines: Count::default(),
+            taken: Count::default(),
+            fnv: Load::empty(),
+            fold: Load::empty(),
+        }
+    }
+
+    fn line(&mut self, line: &[u8]) -> Told {
+        self.lines.more();
+        Told(listing::prefix(line).map(|prefix| self.take(&prefix)))
+    }
+
+    fn take(&mut self, prefix: &Prefix) -> ([u8; 4], [u8; 4]) {
+        let by_fnv = buckets(&Fnv, prefix);
+        let by_fold = buckets(&Fold, prefix);
+        self.taken.more();
+        self.fnv.note(by_fnv[0]);
+        self.fold.note(by_fold[0]);
+        (by_fnv, by_fold)
+    }
+}
+
+impl fmt::Display for Report {
+    fn fmt<W: fmt::Write>(&self, f: &mut fmt::Formatter<W>) -> fmt::Result {
+        let lines = self.lines;
+        let taken = self.taken;
+        let fnv = self.fnv.fullest();
+        let fold = self.fold.fullest();
+        write!(
+            f,
+            "{taken} of {lines} lines taken, fullest first bucket: fnv {fnv}, fold {fold}"
+        )
     }
 }
 
 fn main(rt: HostRuntime) -> io::Result<()> {
-    let mut bytes = Vec::new(rt.alloc());
-    rt.stdin().read_to_end(&mut bytes)?;
-    let mut report = Report {
-        lines: 0,
-        taken: 0,
-        fnv: Load::empty(),
-        fold: Load::empty(),
-    };
-    for line in Lines::new(bytes.as_slice()) {
-        show_line(&rt, &mut report, line)?;
+    let mut report = Report::new();
+    for line in BufReader::new(rt.alloc(), rt.stdin())?.split(rt.alloc(), b'\n') {
+        let line = line?;
+        rt.println(report.line(line.as_slice()))?;
     }
-    let lines = report.lines;
-    let taken = report.taken;
-    let fnv = report.fnv.fullest();
-    let fold = report.fold.fullest();
-    println!(rt; "{taken} of {lines} lines taken, fullest first bucket: fnv {fnv}, fold {fold}")
+    rt.println(report)
 }

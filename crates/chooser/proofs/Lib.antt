@@ -1,2 +1,3 @@
 pub mod Rotations
-pub mod Texts
+pub mod Hashes
+pub mod Largest

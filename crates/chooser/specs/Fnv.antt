@@ -30,7 +30,7 @@ bytes_of zero n = []
 bytes_of (suc w) n = (n / 256 ^ w % 256) ∷ bytes_of w n
 
 abbrev pub text_of : Prefix → ℕ → List ℕ
-text_of p j = (j ∷ []) ++ bytes_of 8 p.first ++ bytes_of 8 p.second ++ (p.len ∷ [])
+text_of p j = (j ∷ []) ++ bytes_of 8 p.halves.first ++ bytes_of 8 p.halves.second ++ (p.len ∷ [])
 
 unfoldable pub fnv_bucket : Prefix → ℕ → ℕ
 fnv_bucket p j = fnv1a (text_of p (j % 4)) % 256

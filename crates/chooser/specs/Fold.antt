@@ -12,4 +12,4 @@ abbrev pub multiplier : ℕ
 multiplier = 11400714819323198485
 
 unfoldable pub fold_bucket : Prefix → ℕ → ℕ
-fold_bucket p j = ((rotated (16 * (j % 4)) (bit_xor p.first p.second) + p.len) * multiplier) % 2 ^ 64 / 2 ^ 56
+fold_bucket p j = ((rotated (16 * (j % 4)) (bit_xor p.halves.first p.halves.second) + p.len) * multiplier) % 2 ^ 64 / 2 ^ 56

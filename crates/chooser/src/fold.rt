@@ -7,6 +7,7 @@ ghost use Rattle.std.specs.Prelude.{◌+◌, ◌*◌, ◌/◌, ◌%◌, ◌^◌,
 ghost use Rattle.std.proofs.Math.Nat.{mod-mod};
 
 use crate::Chooser;
+use bits::Halves;
 use net::Prefix;
 
 const MULTIPLIER: u64 = 11400714819323198485;
@@ -19,10 +20,10 @@ impl Chooser for Fold {
 
     ghost within = { unfold fold_bucket in λ p j. omega arith };
 
-    ghost tries = { unfold fold_bucket in λ p j. ap (λ k. ((rotated (16 * k) (bit_xor p.first p.second) + p.len) * multiplier) % 2 ^ 64 / 2 ^ 56) (sym (mod-mod j 4)) };
+    ghost tries = { unfold fold_bucket in λ p j. ap (λ k. ((rotated (16 * k) (bit_xor p.halves.first p.halves.second) + p.len) * multiplier) % 2 ^ 64 / 2 ^ 56) (sym (mod-mod j 4)) };
 
     fn choose(&self, prefix: &Prefix, attempt: u64) -> u8 {
-        let (first, second) = prefix.halves();
+        let Halves { first, second } = prefix.halves();
         let turned = (first ^ second).rotate_left(16 * (attempt % 4) as u32);
         let product = turned
             .wrapping_add(u64::from(prefix.len()))

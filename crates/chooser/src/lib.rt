@@ -28,11 +28,7 @@ pub trait Chooser {
 
 // The buckets of a prefix at its four tries.
 pub fn buckets<C: Chooser>(chooser: &C, prefix: &Prefix) -> [u8; 4]
-    ensures { result ≡ C.Chooser.bucket prefix.now 0 ∷ C.Chooser.bucket prefix.now 1 ∷ C.Chooser.bucket prefix.now 2 ∷ C.Chooser.bucket prefix.now 3 ∷ [] }
+    ensures { result ≡ C.bucket prefix.now 0 ∷ C.bucket prefix.now 1 ∷ C.bucket prefix.now 2 ∷ C.bucket prefix.now 3 ∷ [] }
 {
-    let first = chooser.choose(prefix, 0);
-    let second = chooser.choose(prefix, 1);
-    let third = chooser.choose(prefix, 2);
-    let fourth = chooser.choose(prefix, 3);
-    [first, second, third, fourth]
+    [0, 1, 2, 3].map(|attempt| chooser.choose(prefix, attempt))
 }

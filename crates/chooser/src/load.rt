@@ -1,4 +1,4 @@
-// How many prefixes would be in each of 256 buckets.
+// How many prefixes would be in each of 256 buckets: an array, since a bucket is its place.
 ghost use Rattle.std.specs.Prelude.{◌≡◌, ◌+◌, ◌-◌, ◌^◌, min, length, replicate, slice_index, slice_set};
 ghost use Rattle.chooser.specs.Load.{most};
 
@@ -19,21 +19,14 @@ impl Load {
     pub fn note(&mut self, bucket: u8)
         ensures { self.new.counts ≡ slice_set self.old.counts bucket (min (slice_index self.old.counts bucket + 1) (2 ^ 64 - 1)) }
     {
-        let n = self.counts[bucket as usize];
-        self.counts[bucket as usize] = n.saturating_add(1);
+        let count = &mut self.counts[usize::from(bucket)];
+        *count = count.saturating_add(1);
     }
 
     // How many are in the fullest bucket.
     pub fn fullest(&self) -> u64
         ensures { result ≡ most self.now.counts }
     {
-        let mut top = 0;
-        for i in 0..256usize {
-            let n = self.counts[i];
-            if n > top {
-                top = n;
-            }
-        }
-        top
+        self.counts.iter().fold(0, |top, n| top.max(*n))
     }
 }

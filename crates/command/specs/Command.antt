@@ -10,10 +10,7 @@
 --   part_of f          a field of the reader, as a part of the line
 --   spelled c          a command of the reader, by its parts
 --   Reads x r          the reader's answer r is the command x, or none
---   parts_from bs o    the parts of the line bs from a place on, or none
---   Place bs o         the place lies in the line bs, which is no longer than a command may be
---   Parts bs k p o     p is the part that begins at place k, and o the place of the next one, if there is one
-use Rattle.std.specs.Prelude.{◌≡◌, ℕ, ◌+◌, ◌≤◌, cond, List, [], ◌∷◌, length, drop, Some, None, Option, MatchOption, ◌==◌, nat_lt}
+use Rattle.std.specs.Prelude.{◌≡◌, ℕ, ◌+◌, cond, List, [], ◌∷◌, length, Some, None, Option, MatchOption, ◌==◌, nat_lt}
 use Rattle.text.specs.Fields.{fields}
 use Rattle.command.specs.declared.Field.{Field}
 use Rattle.command.specs.declared.Command as code
@@ -86,15 +83,3 @@ spelled cases.Count = count
 
 abbrev pub Reads : Option Command → Option code.Command → Type 0
 Reads x r = MatchOption r (x ≡ None) (λ c. x ≡ Some (spelled c))
-
-abbrev pub parts_from : List ℕ → Option ℕ → List Part
-parts_from bs None = []
-parts_from bs (Some k) = placed (k + 1) (fields (drop k bs))
-
-abbrev pub Place : List ℕ → Option ℕ → Type 0
-Place bs None = Unit {0}
-Place bs (Some k) = (length bs ≤ most_bytes) × (k ≤ length bs)
-
-pub record Parts (bs : List ℕ) (k : ℕ) (p : Part) (next : Option ℕ) : Type 0 where
-  pub parts : parts_from bs (Some k) ≡ p ∷ parts_from bs next
-  pub place : Place bs next

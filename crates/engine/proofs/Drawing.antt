@@ -1,46 +1,48 @@
 -- Drawing the graph anew, by what growing, pruning and freeing do to the slots. Assumes nothing.
-use Rattle.std.proofs.Common.{◌≡◌, ℕ, ◌-◌, List, length, refl, arith}
+use Rattle.std.proofs.Common.{◌≡◌, ℕ, ◌-◌, List, length, Ok, Err, refl, ap, ◌∙◌, arith}
 use Rattle.refusal.specs.declared.Refusal.{Refusal}
 use Rattle.tree.specs.Tree.{Shape, shapes}
 use Rattle.tree.proofs.Shapes.{alike_equality}
 use Rattle.bits.proofs.Sets.{different_append}
-use Rattle.graph.specs.Slots.{Unfolds, Sound, in_use}
-use Rattle.graph.specs.Calls.{Kept}
-use Rattle.graph.specs.Grow.{Grown, Overfull}
+use Rattle.graph.specs.Slots.{Sound, in_use}
 use Rattle.graph.specs.Keep.{KeptFrom}
-use Rattle.graph.specs.View.{Holds}
 use Rattle.graph.specs.declared.edge.Edge.{Edge}
 use Rattle.graph.specs.declared.vertex.Vertex.{Vertex}
 use Rattle.graph.proofs.View.{number}
 use Rattle.graph.proofs.Growing.{taken}
 use Rattle.graph.proofs.Back.{holds, back}
-use Rattle.engine.specs.Draws.{Drew, Full, Moves}
+use Rattle.engine.specs.State.{State, redrawn}
+use Rattle.engine.specs.Draws.{Drew, Full, Draft, Moves}
 
--- xs before, ys with the new path, zs at last; t the old tree, u the new one
-module _ (xs ys : List Vertex) (start : Edge) (t u : Shape) (sound : ∥ Sound xs ∥₁) (old : Unfolds xs start t) (held : Holds xs (shapes t)) (kept : Kept xs ys) where
-  pub drew : (e : Edge) (before after made : ℕ) → Grown ys (shapes t) u e → before ≡ length (in_use xs) → after ≡ length (in_use ys) → made ≡ after - before
-      → Drew ys start t u (record { start = e; made = made })
-  drew e before after made grown b a m = record {
-    old = kept.shapes start t old;
-    new = grown.unfolds;
+-- s with the draft, over the slots xs before; a the old tree, b the new one
+module _ (s : State) (xs : List Vertex) (before : ℕ) (a b : Shape) where
+  pub drew : (e : Edge) (after made : ℕ) → Draft xs s.slots s.start before a b (Ok e) → after ≡ length (in_use s.slots) → made ≡ after - before
+      → Drew (redrawn s xs s.start) s a b (record { start = e; made = made })
+  drew e after made draft counted m = record {
+    rest = refl;
+    old = draft.kept.shapes s.start a draft.old;
+    new = draft.made.unfolds;
     number =
-        (let n = number xs (shapes t) sound held in
-        let k = grown.number in
-        let more = different_append alike_equality (shapes t) (shapes u) in
+        (let n = number xs (shapes a) draft.sound draft.held in
+        let k = draft.made.number in
+        let c = draft.counted in
+        let more = different_append alike_equality (shapes a) (shapes b) in
         omega arith);
-    room = grown.room;
+    room = draft.made.room;
   }
 
-  pub full : (zs : List Vertex) (why : Refusal) → ∥ Sound ys ∥₁ → Overfull ys (shapes t) u why → KeptFrom ys zs start → length zs ≡ length xs → Full xs zs t u why
-  full zs why sound' over keeps long = record {
-    why_full = over.why_full;
-    many = over.many;
-    same = back xs ys zs start t sound sound' old held kept (keeps t (taken (kept.shapes start t old))) long;
+  pub full : (zs : List Vertex) (why : Refusal) → Draft xs s.slots s.start before a b (Err why) → ∥ Sound s.slots ∥₁ → KeptFrom s.slots zs s.start → length zs ≡ length s.slots
+      → Full (redrawn s xs s.start) (redrawn s zs s.start) a b why
+  full zs why draft sound keeps long = record {
+    why_full = draft.made.why_full;
+    many = draft.made.many;
+    same = ap (λ ys. redrawn s ys s.start)
+        (back xs s.slots zs s.start a sound draft.old draft.held draft.kept (keeps a (taken (draft.kept.shapes s.start a draft.old))) (long ∙ draft.long));
   }
 
-pub moves : (xs ys : List Vertex) (start : Edge) → KeptFrom xs ys start → Moves xs ys start start
-moves xs ys start keeps = record {
-  moved = refl;
-  leads = λ t h. (keeps t (taken h)).whole start h;
-  holds = λ t h. holds xs ys start t h (keeps t (taken h));
+pub moves : (s : State) (zs : List Vertex) (start : Edge) → KeptFrom s.slots zs start → Moves s (redrawn s zs start) start
+moves s zs start keeps = record {
+  rest = refl;
+  leads = λ a h. (keeps a (taken h)).whole start h;
+  holds = λ a h. holds s.slots zs start a h (keeps a (taken h));
 }

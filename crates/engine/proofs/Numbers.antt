@@ -28,11 +28,11 @@ number m n ys counted once all =
     ∥∥₁_elim counted (ℕ_set _ _) λ (xs, listed).
     sym listed.long ∙ as_long xs ys listed.once (no_repeats same_equality ys once) (λ q. listed.all q ∙ sym (all q))
 
-pub routes_number : (own : Type 0) (c : Content) (rs : Routes) → Sound own c → Once rs → ((p : Bits) → c.map p ≡ hop_at rs p) → c.held ≡ length rs
-routes_number own c rs sound once told =
+pub routes_number : (c : Content) (rs : Routes) → Sound c → Once rs → ((p : Bits) → c.map p ≡ hop_at rs p) → c.held ≡ length rs
+routes_number c rs sound once told =
     number c.map c.held (map (λ r. r.at) rs) sound.counted (routes_once rs once) (λ q. any_prefix rs q ∙ sym (routes_held rs q) ∙ ap is_some (sym (told q)))
     ∙ length-map rs (λ r. r.at)
 
-pub leaves_number : (own : Type 0) (c : Content) (rs : Routes) → Sound own c → ((q : Bits) → c.map q ≡ leaf_entry rs q) → c.held ≡ length (matched rs)
-leaves_number own c rs sound told =
+pub leaves_number : (c : Content) (rs : Routes) → Sound c → ((q : Bits) → c.map q ≡ leaf_entry rs q) → c.held ≡ length (matched rs)
+leaves_number c rs sound told =
     number c.map c.held (matched rs) sound.counted (matched_once rs) (λ q. sym (leaves_held rs q) ∙ ap is_some (sym (told q)))

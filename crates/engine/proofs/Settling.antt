@@ -6,40 +6,43 @@ use Rattle.bits.specs.Rows.{Bits, same, any_one}
 use Rattle.net.specs.Prefix.{refusal_of}
 use Rattle.refusal.specs.declared.Refusal.{Refusal}
 use Rattle.refusal.specs.declared.Refusal.TheVariants.{Length, HostBits, Hop, Unknown, RoutesFull, LeavesFull, VerticesFull}
-use Rattle.tree.specs.Tree.{Routes, Shape, alike, shapes, pushed, matched}
+use Rattle.tree.specs.Tree.{Routes, Shape, alike, shapes, has_node, pushed, matched}
 use Rattle.tree.specs.Ledger.{Given, announce, withdraw, Answer, bad_hop, vertex_slots, stands, struck, entered, vertices, new_shapes, together, checks, decided, announce_checks, withdraw_checks, turn}
 use Rattle.tree.specs.LedgerLaws as ledger
 use Rattle.tree.specs.Changes.{pruned}
 use Rattle.tree.specs.HopLaws.{leaf_hop}
 use Rattle.tree.specs.StoreLaws.{hop_at}
+use Rattle.tree.proofs.Changes.{standing_node, entering_node}
 use Rattle.tree.proofs.Paths.{together_is, nothing_new}
 use Rattle.tree.proofs.Sounds.{turn_sound}
 use Rattle.tree.proofs.Stores.{routes_held}
-use Rattle.store.specs.Content.{Content, Map}
+use Rattle.store.specs.Content.{Map}
 use Rattle.path.proofs.Laws as path
 use Rattle.path.specs.Prune.{others}
 use Rattle.path.specs.Shorter.{NextShorter}
-use Rattle.engine.specs.Changes.{room_checks, fold_checks}
+use Rattle.engine.specs.Changes.{room_checks, fold_checks, Enters, Strikes}
+use Rattle.engine.specs.Writes.{SetsAt}
+use Rattle.engine.proofs.Spots.{node_edge}
+use Rattle.graph.specs.Descend.{Descends}
+use Rattle.graph.specs.declared.spot.Spot.{Spot}
+use Rattle.graph.proofs.Growing.{taken}
 use Rattle.graph.specs.Slots.{Unfolds}
 use Rattle.graph.specs.View.{Holds}
 use Rattle.graph.specs.declared.edge.Edge.{Edge}
-use Rattle.engine.specs.Draws.{Moves}
-use Rattle.engine.specs.Serves.{Serves, Settles, Unchanged, Stored}
-use Rattle.engine.specs.Writes.{Stores}
-use Rattle.engine.specs.declared.engine.Engine.{Engine}
+use Rattle.graph.specs.declared.vertex.Vertex.{Vertex}
+use Rattle.engine.specs.State.{State, rewritten, redrawn}
+use Rattle.engine.specs.Draws.{Drew, Full, Moves}
+use Rattle.engine.specs.Serves.{Serves, Settles, Stored}
+use Rattle.engine.specs.declared.draw.Drawn.{Drawn}
 
 -- by the refusal, if there is one
-module _ {F R L : Type 0} (g : Given) (kept_r : R → Type 0) (content_r : R → Content) (kept_l : L → Type 0) (content_l : L → Content) (rs ss : Routes) (e f : Engine F R L) (o : Option Refusal) where
-  pub refused_by : (why : Refusal) → o ≡ Some why → Serves g kept_r content_r kept_l content_l rs f → Unchanged content_r content_l e f
-      → Settles g kept_r content_r kept_l content_l (decided o rs ss) e f (Err why)
-  refused_by why is serves same = subst (λ x. Settles g kept_r content_r kept_l content_l (decided x rs ss) e f (Err why)) (sym is) (record { answer = refl; serves = serves; refuses = same })
+module _ (g : Given) (rs ss : Routes) (s t : State) (o : Option Refusal) where
+  pub refused_by : (why : Refusal) → o ≡ Some why → Serves g rs s → t ≡ s → Settles g (decided o rs ss) s t (Err why)
+  refused_by why is serves same =
+      subst (λ x. Settles g (decided x rs ss) s t (Err why)) (sym is) (record { answer = refl; serves = subst (Serves g rs) (sym same) serves; refuses = same })
 
-  pub granted_by : (n : ℕ) → o ≡ None → n ≡ new_shapes rs ss → Serves g kept_r content_r kept_l content_l ss f
-      → Settles g kept_r content_r kept_l content_l (decided o rs ss) e f (Ok n)
-  granted_by n is new serves = subst (λ x. Settles g kept_r content_r kept_l content_l (decided x rs ss) e f (Ok n)) (sym is) (record { answer = ap changed (sym new); serves = serves; refuses = tt })
-    where
-      changed : ℕ → Answer
-      changed = Answer.changed
+  pub granted_by : (n : ℕ) → o ≡ None → n ≡ new_shapes rs ss → Serves g ss t → Settles g (decided o rs ss) s t (Ok n)
+  granted_by n is new serves = subst (λ x. Settles g (decided x rs ss) s t (Ok n)) (sym is) (record { answer = ap Answer.changed (sym new); serves = serves; refuses = tt })
 
 -- the room for a new route
 module _ (g : Given) (rs ss : Routes) where
@@ -63,13 +66,7 @@ no_fold rs ss many = let c = lt-ltb _ _ many in rw c
 pub fold_room : (rs ss : Routes) → together rs ss ≤ vertex_slots → fold_checks rs ss ≡ None
 fold_room rs ss few = let c = le-ltb _ _ few in rw c
 
--- shapes before and after, where the new tree is known
-pub together_by : (rs ss : Routes) (u : Shape) → pushed ss ≡ u → together rs ss ≡ different alike (shapes (pushed rs) ++ shapes u)
-together_by rs ss u e = ap (λ t. different alike (shapes (pushed rs) ++ shapes t)) e
-
-pub new_by : (rs ss : Routes) (made : ℕ) → together rs ss ≡ vertices rs + made → made ≡ new_shapes rs ss
-new_by rs ss made e = let t = together_is rs ss in omega arith
-
+-- where the tree stays, its shapes still fit
 pub still_fits : (g : Given) (rs ss : Routes) → ledger.Sound g rs → pushed ss ≡ pushed rs → together rs ss ≤ vertex_slots
 still_fits g rs ss sound e = let t = together_is rs ss in let n = nothing_new rs ss e in let v = sound.vertices_fit in omega arith
 
@@ -132,89 +129,146 @@ module _ (g : Given) (rs : Routes) (a : Bits) (n : ℕ) where
   pub withdraw_sound : ledger.Sound g rs → withdraw_checks g rs a n ≡ None → ledger.Sound g (struck rs (take n a))
   withdraw_sound sound e = subst (λ o. ledger.Sound g (decided o rs (struck rs (take n a))).0) e (turn_sound g rs sound (withdraw a n))
 
--- an engine after its parts have changed
-module _ {F R L : Type 0} (g : Given) (kept_r : R → Type 0) (content_r : R → Content) (kept_l : L → Type 0) (content_l : L → Content) (e f : Engine F R L) where
-  pub stored_still : (rs : Routes) → f.routes ≡ e.routes → f.leaves ≡ e.leaves → Stores kept_r content_r kept_l content_l g rs e → Stores kept_r content_r kept_l content_l g rs f
-  stored_still rs a b s =
-      subst (λ x. Stored g rs (kept_r x) (kept_l f.leaves) (content_r x) (content_l f.leaves)) (sym a)
-      (subst (λ y. Stored g rs (kept_r e.routes) (kept_l y) (content_r e.routes) (content_l y)) (sym b) s)
-
+-- a state after its parts have changed
+module _ (g : Given) (s t : State) where
   -- the graph stays, and the stores have the new routes
-  pub serves_still : (rs ss : Routes) → f.table ≡ e.table → f.start ≡ e.start → pushed ss ≡ pushed rs → ledger.Sound g ss
-      → Serves g kept_r content_r kept_l content_l rs e → Stores kept_r content_r kept_l content_l g ss f → Serves g kept_r content_r kept_l content_l ss f
-  serves_still rs ss a b tree sound serves stored = record {
+  pub serves_still : (rs ss : Routes) → t ≡ rewritten s t.routes t.leaves → pushed ss ≡ pushed rs → ledger.Sound g ss → Serves g rs s → Stored g ss t → Serves g ss t
+  serves_still rs ss rest tree sound serves stored = record {
     ledger = sound;
     stored = stored;
-    starts = subst (λ t. Unfolds t.slots f.start (pushed ss)) (sym a) (subst (λ k. Unfolds e.table.slots k (pushed ss)) (sym b) (subst (Unfolds e.table.slots e.start) (sym tree) serves.starts));
-    holds = subst (λ t. Holds t.slots (shapes (pushed ss))) (sym a) (subst (λ t. Holds e.table.slots (shapes t)) (sym tree) serves.holds);
+    starts = subst (λ x. Unfolds x.slots x.start (pushed ss)) (sym rest) (subst (Unfolds s.slots s.start) (sym tree) serves.starts);
+    holds = subst (λ x. Holds x.slots (shapes (pushed ss))) (sym rest) (subst (λ a. Holds s.slots (shapes a)) (sym tree) serves.holds);
   }
 
+  -- the graph is another, and the stores stay
+  stored_redrawn : (rs : Routes) (slots : List Vertex) (start : Edge) → t ≡ redrawn s slots start → Stored g rs s → Stored g rs t
+  stored_redrawn rs slots start rest stored = subst (Stored g rs) (sym rest) (record {
+    width = stored.width;
+    routes_sound = stored.routes_sound;
+    route_hops = stored.route_hops;
+    routes_held = stored.routes_held;
+    routes_limit = stored.routes_limit;
+    leaves_sound = stored.leaves_sound;
+    leaf_hops = stored.leaf_hops;
+    leaves_held = stored.leaves_held;
+    leaves_limit = stored.leaves_limit;
+  })
+
   -- the start has moved
-  pub serves_moved : (ss : Routes) (start : Edge) → f.routes ≡ e.routes → f.leaves ≡ e.leaves → Moves e.table.slots f.table.slots start f.start → ledger.Sound g ss
-      → Stores kept_r content_r kept_l content_l g ss e → Unfolds e.table.slots start (pushed ss) → Serves g kept_r content_r kept_l content_l ss f
-  serves_moved ss start a b moves sound stored leads = record {
+  serves_moved : (ss : Routes) (start : Edge) → Moves s t start → ledger.Sound g ss → Stored g ss s → Unfolds s.slots start (pushed ss) → Serves g ss t
+  serves_moved ss start moves sound stored leads = record {
     ledger = sound;
-    stored = stored_still ss a b stored;
-    starts = subst (λ k. Unfolds f.table.slots k (pushed ss)) (sym moves.moved) (moves.leads (pushed ss) leads);
+    stored = stored_redrawn ss t.slots start moves.rest stored;
+    starts = subst (λ k. Unfolds t.slots k (pushed ss)) (sym (ap (λ x. x.start) moves.rest)) (moves.leads (pushed ss) leads);
     holds = moves.holds (pushed ss) leads;
   }
 
-  -- all is as it was
-  pub serves_back : (rs : Routes) → f.routes ≡ e.routes → f.leaves ≡ e.leaves → f.start ≡ e.start → f.table.slots ≡ e.table.slots
-      → Serves g kept_r content_r kept_l content_l rs e → Serves g kept_r content_r kept_l content_l rs f
-  serves_back rs a b c d serves = record {
-    ledger = serves.ledger;
-    stored = stored_still rs a b serves.stored;
-    starts = subst (λ xs. Unfolds xs f.start (pushed rs)) (sym d) (subst (λ k. Unfolds e.table.slots k (pushed rs)) (sym c) serves.starts);
-    holds = subst (λ xs. Holds xs (shapes (pushed rs))) (sym d) serves.holds;
-  }
+-- the graph is drawn anew for the tree u, from s to s1
+module _ (g : Given) (rs ss : Routes) (o : Option Refusal) (s s1 : State) (u : Shape) (tree : pushed ss ≡ u) where
+  together_by : together rs ss ≡ different alike (shapes (pushed rs) ++ shapes u)
+  together_by = ap (λ t. different alike (shapes (pushed rs) ++ shapes t)) tree
 
-  pub unchanged_back : f.routes ≡ e.routes → f.leaves ≡ e.leaves → f.start ≡ e.start → f.table.slots ≡ e.table.slots → Unchanged content_r content_l e f
-  unchanged_back a b c d = record { routes = ap content_r a; leaves = ap content_l b; slots = d; start = c }
+  -- no room for it
+  pub drawn_full : (why : Refusal) → Full s s1 (pushed rs) u why → (vertex_slots < together rs ss → o ≡ Some VerticesFull) → Serves g rs s → Settles g (decided o rs ss) s s1 (Err why)
+  drawn_full why full none serves = rw full.why_full (refused_by g rs ss s s1 o VerticesFull (none (rw together_by full.many)) serves full.same)
 
--- from the prefix p that was made to the call's own words
-module _ (g : Given) (rs : Routes) (a : Bits) (n : ℕ) (p : Bits) (row : p ≡ take n a) (right : refusal_of g.width a n ≡ None) where
-  standing_row : (b : Bool) → stands rs p ≡ b → stands rs (take n a) ≡ b
-  standing_row b s = ap (stands rs) (sym row) ∙ s
+  module _ (d : Drawn) (drew : Drew s s1 (pushed rs) u d) where
+    pub drawn_room : together rs ss ≤ vertex_slots
+    drawn_room = rw together_by drew.room
 
-  pub enter_sound : (h : ℕ) → bad_hop h ≡ false → stands rs p ≡ false → ledger.Sound g rs → room_checks g rs (entered rs p h) ≡ None → ledger.Sound g (entered rs p h)
-  enter_sound h good new sound none =
-      subst (λ q. ledger.Sound g (entered rs q h)) (sym row)
-      (announce_sound g rs a n h sound (announce_new g rs a n right h good (standing_row false new) ∙ subst (λ q. room_checks g rs (entered rs q h) ≡ None) row none))
+    pub drawn_leads : Unfolds s1.slots d.start (pushed ss)
+    drawn_leads = subst (Unfolds s1.slots d.start) (sym tree) drew.new
 
-  pub rehop_sound : (h : ℕ) → bad_hop h ≡ false → stands rs p ≡ true → ledger.Sound g rs → ledger.Sound g (entered rs p h)
-  rehop_sound h good s sound = subst (λ q. ledger.Sound g (entered rs q h)) (sym row) (announce_sound g rs a n h sound (announce_standing g rs a n right h good (standing_row true s)))
+    pub drawn_starts : Unfolds s1.slots s1.start (pushed rs)
+    drawn_starts = subst (λ k. Unfolds s1.slots k (pushed rs)) (sym (ap (λ x. x.start) drew.rest)) drew.old
 
-  pub strike_sound : stands rs p ≡ true → ledger.Sound g rs → fold_checks rs (struck rs p) ≡ None → ledger.Sound g (struck rs p)
-  strike_sound s sound none =
-      subst (λ q. ledger.Sound g (struck rs q)) (sym row)
-      (withdraw_sound g rs a n sound (withdraw_known g rs a n right (standing_row true s) ∙ subst (λ q. fold_checks rs (struck rs q) ≡ None) row none))
+    pub drawn_stored : Stored g rs s → Stored g rs s1
+    drawn_stored = stored_redrawn g s s1 rs s1.slots s.start drew.rest
 
-  module _ {F R L : Type 0} (kept_r : R → Type 0) (content_r : R → Content) (kept_l : L → Type 0) (content_l : L → Content) (e f : Engine F R L) (r : Result ℕ Refusal) where
-    pub enters_turn : (h : ℕ) → bad_hop h ≡ false → stands rs p ≡ false
-        → Settles g kept_r content_r kept_l content_l (decided (room_checks g rs (entered rs p h)) rs (entered rs p h)) e f r
-        → Settles g kept_r content_r kept_l content_l (turn g rs (announce a n h)) e f r
-    enters_turn h good new settles =
-        subst (λ o. Settles g kept_r content_r kept_l content_l (decided o rs (entered rs (take n a) h)) e f r) (sym (announce_new g rs a n right h good (standing_row false new)))
-        (subst (λ q. Settles g kept_r content_r kept_l content_l (decided (room_checks g rs (entered rs q h)) rs (entered rs q h)) e f r) row settles)
+    -- then the stores are written, to s2, and the start is moved, to s3
+    pub drawn_granted : (s2 s3 : State) → o ≡ None → ledger.Sound g ss → s2 ≡ rewritten s1 s2.routes s2.leaves → Stored g ss s2 → Moves s2 s3 d.start → Settles g (decided o rs ss) s s3 (Ok d.made)
+    drawn_granted s2 s3 none sound rest stored moves =
+        granted_by g rs ss s s3 o d.made none
+        (let t = together_is rs ss in let b : together rs ss ≡ vertices rs + d.made = together_by ∙ drew.number in omega arith)
+        (serves_moved g s2 s3 ss d.start moves sound stored (subst (λ x. Unfolds x.slots d.start (pushed ss)) (sym rest) drawn_leads))
 
-    pub rehops_turn : (h : ℕ) → bad_hop h ≡ false → stands rs p ≡ true
-        → Settles g kept_r content_r kept_l content_l (decided None rs (entered rs p h)) e f r
-        → Settles g kept_r content_r kept_l content_l (turn g rs (announce a n h)) e f r
-    rehops_turn h good s settles =
-        subst (λ o. Settles g kept_r content_r kept_l content_l (decided o rs (entered rs (take n a) h)) e f r) (sym (announce_standing g rs a n right h good (standing_row true s)))
-        (subst (λ q. Settles g kept_r content_r kept_l content_l (decided None rs (entered rs q h)) e f r) row settles)
+-- from the state of the call, and the prefix p that was made, to the call's own words
+module _ (g : Given) (rs : Routes) (s : State) (serves : Serves g rs s) (a : Bits) (n : ℕ) where
+  at_width : (o : Option Refusal) → refusal_of s.width a n ≡ o → refusal_of g.width a n ≡ o
+  at_width o is = ap (λ w. refusal_of w a n) serves.stored.width ∙ is
 
-    pub strikes_turn : stands rs p ≡ true
-        → Settles g kept_r content_r kept_l content_l (decided (fold_checks rs (struck rs p)) rs (struck rs p)) e f r
-        → Settles g kept_r content_r kept_l content_l (turn g rs (withdraw a n)) e f r
-    strikes_turn s settles =
-        subst (λ o. Settles g kept_r content_r kept_l content_l (decided o rs (struck rs (take n a))) e f r) (sym (withdraw_known g rs a n right (standing_row true s)))
-        (subst (λ q. Settles g kept_r content_r kept_l content_l (decided (fold_checks rs (struck rs q)) rs (struck rs q)) e f r) row settles)
+  -- no prefix was made
+  pub announce_refused : (h : ℕ) (why : Refusal) → refusal_of s.width a n ≡ Some why → Settles g (turn g rs (announce a n h)) s s (Err why)
+  announce_refused h why is = refused_by g rs (entered rs (take n a) h) s s (announce_checks g rs a n h) why (announce_prefix g rs a n h why (at_width (Some why) is)) serves refl
 
-  pub unknown_by : stands rs p ≡ false → withdraw_checks g rs a n ≡ Some Unknown
-  unknown_by s = withdraw_unknown g rs a n right (standing_row false s)
+  pub withdraw_refused : (why : Refusal) → refusal_of s.width a n ≡ Some why → Settles g (turn g rs (withdraw a n)) s s (Err why)
+  withdraw_refused why is = refused_by g rs (struck rs (take n a)) s s (withdraw_checks g rs a n) why (withdraw_prefix g rs a n why (at_width (Some why) is)) serves refl
 
--- whether a route stands, by what its store told
-pub told_stands : (g : Given) (rs : Routes) (own own' : Type 0) (routes leaf_store : Content) → Stored g rs own own' routes leaf_store → (p : Bits) (o : Option ℕ) (b : Bool) → o ≡ routes.map p → is_some o ≡ b → stands rs p ≡ b
-told_stands g rs own own' routes leaf_store stored p o b told is = sym (routes_held rs p) ∙ ap is_some (sym (stored.route_hops p) ∙ sym told) ∙ is
+  module _ (fits : refusal_of s.width a n ≡ None) where
+    right : refusal_of g.width a n ≡ None
+    right = at_width None fits
+
+    pub hop_refused : (h : ℕ) → bad_hop h ≡ true → Settles g (turn g rs (announce a n h)) s s (Err Hop)
+    hop_refused h bad = refused_by g rs (entered rs (take n a) h) s s (announce_checks g rs a n h) Hop (announce_hop g rs a n right h bad) serves refl
+
+    module _ (p : Bits) (row : p ≡ take n a) (told : Option ℕ) (get : told ≡ s.routes.map p) where
+      -- whether its route stands, by what the store told
+      standing : (b : Bool) → is_some told ≡ b → stands rs p ≡ b
+      standing b is = sym (routes_held rs p) ∙ ap is_some (sym (serves.stored.route_hops p) ∙ sym get) ∙ is
+
+      standing_row : (b : Bool) → is_some told ≡ b → stands rs (take n a) ≡ b
+      standing_row b is = ap (stands rs) (sym row) ∙ standing b is
+
+      pub unknown_refused : is_some told ≡ false → Settles g (turn g rs (withdraw a n)) s s (Err Unknown)
+      unknown_refused away =
+          refused_by g rs (struck rs (take n a)) s s (withdraw_checks g rs a n) Unknown (withdraw_unknown g rs a n right (standing_row false away)) serves refl
+
+      module _ (t : State) (r : Result ℕ Refusal) where
+        pub strikes_turn : is_some told ≡ true → Strikes p s t r → Settles g (turn g rs (withdraw a n)) s t r
+        strikes_turn there strikes =
+            subst (λ o. Settles g (decided o rs (struck rs (take n a))) s t r) (sym known)
+            (subst (λ q. Settles g (decided (fold_checks rs (struck rs q)) rs (struck rs q)) s t r) row
+            (strikes g rs (record { serves = serves; sound = sound }) (standing true there)))
+          where
+            known : withdraw_checks g rs a n ≡ fold_checks rs (struck rs (take n a))
+            known = withdraw_known g rs a n right (standing_row true there)
+
+            sound : fold_checks rs (struck rs p) ≡ None → ledger.Sound g (struck rs p)
+            sound none = subst (λ q. ledger.Sound g (struck rs q)) (sym row) (withdraw_sound g rs a n serves.ledger (known ∙ subst (λ q. fold_checks rs (struck rs q) ≡ None) row none))
+
+        pub enters_turn : (h : ℕ) → bad_hop h ≡ false → is_some told ≡ false → Enters p h s t r → Settles g (turn g rs (announce a n h)) s t r
+        enters_turn h good away enters =
+            subst (λ o. Settles g (decided o rs (entered rs (take n a) h)) s t r) (sym new)
+            (subst (λ q. Settles g (decided (room_checks g rs (entered rs q h)) rs (entered rs q h)) s t r) row
+            (enters g rs (record { serves = serves; sound = sound }) (standing false away)))
+          where
+            new : announce_checks g rs a n h ≡ room_checks g rs (entered rs (take n a) h)
+            new = announce_new g rs a n right h good (standing_row false away)
+
+            sound : room_checks g rs (entered rs p h) ≡ None → ledger.Sound g (entered rs p h)
+            sound none =
+                subst (λ q. ledger.Sound g (entered rs q h)) (sym row)
+                (announce_sound g rs a n h serves.ledger (new ∙ subst (λ q. room_checks g rs (entered rs q h) ≡ None) row none))
+
+      -- a standing route gets another hop
+      pub rehops_turn : (t : State) (h : ℕ) (spot : Spot) → bad_hop h ≡ false → is_some told ≡ true → Descends s.slots s.start p spot
+          → t ≡ rewritten s t.routes t.leaves → SetsAt p spot.edge h s t → Settles g (turn g rs (announce a n h)) s t (Ok 0)
+      rehops_turn t h spot good there descends rest sets =
+          subst (λ o. Settles g (decided o rs (entered rs (take n a) h)) s t (Ok 0)) (sym free)
+          (subst (λ q. Settles g (decided None rs (entered rs q h)) s t (Ok 0)) row
+          (granted_by g rs (entered rs p h) s t None 0 refl (sym (nothing_new rs (entered rs p h) tree))
+          (serves_still g s t rs (entered rs p h) rest tree sound serves
+          (sets g rs (record { before = serves.ledger; after = sound; stored = serves.stored }) node
+          (node_edge s.slots rs p spot (descends (pushed rs) (taken serves.starts)) node)))))
+        where
+          free : announce_checks g rs a n h ≡ None
+          free = announce_standing g rs a n right h good (standing_row true there)
+
+          node : has_node (pushed rs) p ≡ true
+          node = standing_node rs p (standing true there)
+
+          tree : pushed (entered rs p h) ≡ pushed rs
+          tree = entering_node rs p h node
+
+          sound : ledger.Sound g (entered rs p h)
+          sound = subst (λ q. ledger.Sound g (entered rs q h)) (sym row) (announce_sound g rs a n h serves.ledger free)

@@ -1,5 +1,5 @@
 -- What the stores hold, read as facts of the routes. Assumes nothing.
-use Rattle.std.proofs.Common.{◌≡◌, ℕ, ◌+◌, ◌-◌, ◌^◌, ◌<◌, ◌≤◌, min, Bool, true, false, cond, not, ◌&&◌, eqb, ltb, List, [], ◌∷◌, length, is_some, Some, None, Ok, Err, Option, Result, sym, refl, ap, ◌∙◌, inl, inr, arith}
+use Rattle.std.proofs.Common.{◌≡◌, ℕ, ◌+◌, ◌-◌, ◌^◌, ◌<◌, ◌≤◌, min, Bool, true, false, cond, not, ◌&&◌, eqb, ltb, List, [], ◌∷◌, length, is_some, Some, None, Ok, Err, Option, Result, sym, refl, ap, ◌∙◌, subst, inl, inr, arith}
 use mathlib.Core.Path.{fun_ext}
 use mathlib.Core.List.{mem-cons_self}
 use Rattle.std.proofs.lemmas.Bool.{cases_Bool, or_left, or_right, lt-ltb, le-ltb}
@@ -24,9 +24,15 @@ use Rattle.tree.proofs.Matched.{some_hop}
 use Rattle.tree.proofs.Longest.{longest_some}
 use Rattle.tree.proofs.Counts.{enters_node, rehops, below_matched, below_unmatched}
 use Rattle.tree.proofs.Hops as hops
-use Rattle.paint.specs.Paint.{has, missing, fair}
-use Rattle.engine.specs.Serves.{Stored}
+use Rattle.graph.specs.Slots.{led, Unfolds}
+use Rattle.graph.specs.declared.edge.Edge.{Edge}
+use Rattle.graph.proofs.Growing.{taken}
+use Rattle.paint.specs.Paint.{has, missing, fair, Counts}
+use Rattle.paint.proofs.Whole.{counts_whole}
+use Rattle.engine.specs.State.{State}
+use Rattle.engine.specs.Serves.{Serves, Stored}
 use Rattle.engine.proofs.Numbers.{routes_number, leaves_number}
+use Rattle.engine.proofs.Trees.{fits}
 
 -- counted on the members alone
 pub count_on : (f g : Bits → Bool) (xs : List Bits) → ((x : Bits) → any (same x) xs ≡ true → f x ≡ g x) → count f xs ≡ count g xs
@@ -89,87 +95,91 @@ pub entered_good : (g : Given) (rs : Routes) (p : Bits) (h : ℕ) → ledger.Sou
 entered_good g rs p h sound = sound.hops (record { at = p; hop = h }) mem-cons_self
 
 -- the number follows from the map
-pub stored_by : (g : Given) (ss : Routes) (own own' : Type 0) (routes leaf_store : Content) → ledger.Sound g ss
-    → Sound own routes → ((p : Bits) → routes.map p ≡ hop_at ss p) → routes.limit ≡ g.route_limit
-    → Sound own' leaf_store → ((q : Bits) → leaf_store.map q ≡ leaf_entry ss q) → leaf_store.limit ≡ g.leaf_limit
-    → Stored g ss own own' routes leaf_store
-stored_by g ss own own' routes leaf_store sound sr told lr sl told' ll = record {
+pub stored_by : (g : Given) (ss : Routes) (t : State) → ledger.Sound g ss → g.width ≡ t.width
+    → Sound t.routes → ((p : Bits) → t.routes.map p ≡ hop_at ss p) → t.routes.limit ≡ g.route_limit
+    → Sound t.leaves → ((q : Bits) → t.leaves.map q ≡ leaf_entry ss q) → t.leaves.limit ≡ g.leaf_limit
+    → Stored g ss t
+stored_by g ss t sound wide sr told lr sl told' ll = record {
+  width = wide;
   routes_sound = sr;
   route_hops = told;
-  routes_held = routes_number own routes ss sr sound.once told;
+  routes_held = routes_number t.routes ss sr sound.once told;
   routes_limit = lr;
   leaves_sound = sl;
   leaf_hops = told';
-  leaves_held = leaves_number own' leaf_store ss sl told';
+  leaves_held = leaves_number t.leaves ss sl told';
   leaves_limit = ll;
 }
 
-module _ (g : Given) (rs : Routes) (own own' : Type 0) (routes leaf_store : Content) (stored : Stored g rs own own' routes leaf_store) where
-  pub has_routes : has routes.map ≡ stands rs
+module _ (g : Given) (rs : Routes) (s : State) (stored : Stored g rs s) where
+  pub has_routes : has s.routes.map ≡ stands rs
   has_routes = fun_ext (λ q. ap is_some (stored.route_hops q) ∙ routes_held rs q)
 
-  pub put_told : (p : Bits) (h : ℕ) (after : Content) → Wrote p (hop_told h) routes after → (q : Bits) → after.map q ≡ hop_at (entered rs p h) q
-  put_told p h after wrote q = wrote.rows q ∙ ap (λ b. cond b (Some h) (routes.map q)) (same_swap q p) ∙ ap (cond (same p q) (Some h)) (stored.route_hops q) ∙ sym (entered_hop rs p h q)
+  pub put_told : (p : Bits) (h : ℕ) (after : Content) → Wrote p (hop_told h) s.routes after → (q : Bits) → after.map q ≡ hop_at (entered rs p h) q
+  put_told p h after wrote q = wrote.rows q ∙ ap (λ b. cond b (Some h) (s.routes.map q)) (same_swap q p) ∙ ap (cond (same p q) (Some h)) (stored.route_hops q) ∙ sym (entered_hop rs p h q)
 
-  pub remove_told : (p : Bits) (after : Content) → Wrote p absent routes after → (q : Bits) → after.map q ≡ hop_at (struck rs p) q
-  remove_told p after wrote q = wrote.rows q ∙ ap (λ b. cond b None (routes.map q)) (same_swap q p) ∙ ap (cond (same p q) None) (stored.route_hops q) ∙ sym (struck_hop rs p q)
+  pub remove_told : (p : Bits) (after : Content) → Wrote p absent s.routes after → (q : Bits) → after.map q ≡ hop_at (struck rs p) q
+  remove_told p after wrote q = wrote.rows q ∙ ap (λ b. cond b None (s.routes.map q)) (same_swap q p) ∙ ap (cond (same p q) None) (stored.route_hops q) ∙ sym (struck_hop rs p q)
 
   -- the routes have room for one that stands already, and for a new one where the limit is not reached
-  pub put_free : (p : Bits) (h : ℕ) → ledger.Sound g (entered rs p h) → (stands rs p ≡ true) → put_refusal routes p h ≡ None
-  put_free p h sound s =
-      let here : present (routes.map p) ≡ true = ap (λ t. t p) has_routes ∙ s in
-      free_at routes p h (entered_good g rs p h sound) (grind arith)
+  pub put_free : (p : Bits) (h : ℕ) → ledger.Sound g (entered rs p h) → (stands rs p ≡ true) → put_refusal s.routes p h ≡ None
+  put_free p h sound there =
+      let here : present (s.routes.map p) ≡ true = ap (λ t. t p) has_routes ∙ there in
+      free_at s.routes p h (entered_good g rs p h sound) (grind arith)
 
-  pub put_new : (p : Bits) (h : ℕ) → ledger.Sound g (entered rs p h) → (stands rs p ≡ false) → length (entered rs p h) ≡ length rs + 1 → put_refusal routes p h ≡ None
-  put_new p h sound s more =
+  pub put_new : (p : Bits) (h : ℕ) → ledger.Sound g (entered rs p h) → (stands rs p ≡ false) → length (entered rs p h) ≡ length rs + 1 → put_refusal s.routes p h ≡ None
+  put_new p h sound away more =
       let fit = sound.routes_fit in
       let held = stored.routes_held in
       let limit = stored.routes_limit in
-      let apart : eqb routes.held routes.limit ≡ false = grind (arith, nat_tests) in
-      free_at routes p h (entered_good g rs p h sound) (grind arith)
+      let apart : eqb s.routes.held s.routes.limit ≡ false = grind (arith, nat_tests) in
+      free_at s.routes p h (entered_good g rs p h sound) (grind arith)
 
   -- a leaf has an entry exactly where it is matched
-  leaf_missing : (q : Bits) → Leaf rs q → missing leaf_store.map q ≡ unmatched rs q
+  leaf_missing : (q : Bits) → Leaf rs q → missing s.leaves.map q ≡ unmatched rs q
   leaf_missing q l = ap not (ap is_some (stored.leaf_hops q ∙ entry_leaf rs q l) ∙ some_hop rs q)
 
-  pub reach_missing : (p : Bits) → has_node (pushed rs) p ≡ true → count (missing leaf_store.map) (reach rs p) ≡ count (unmatched rs) (reach rs p)
+  pub reach_missing : (p : Bits) → has_node (pushed rs) p ≡ true → count (missing s.leaves.map) (reach rs p) ≡ count (unmatched rs) (reach rs p)
   reach_missing p node = count_on _ _ (reach rs p) (λ u m. leaf_missing u ((hops.enters_node rs p node 0).leaf u ((has_row u _).1 m)))
 
   -- the leaf store has room for what it will hold
-  pub node_number : (p : Bits) (h : ℕ) → has_node (pushed rs) p ≡ true → leaf_store.held + count (missing leaf_store.map) (reach rs p) ≡ length (matched (entered rs p h))
+  pub node_number : (p : Bits) (h : ℕ) → has_node (pushed rs) p ≡ true → s.leaves.held + count (missing s.leaves.map) (reach rs p) ≡ length (matched (entered rs p h))
   node_number p h node = let a = stored.leaves_held in let b = reach_missing p node in let c = enters_node rs p h node in omega arith
 
-  pub node_room : (p : Bits) (h : ℕ) → has_node (pushed rs) p ≡ true → ledger.Sound g (entered rs p h) → leaf_store.held + count (missing leaf_store.map) (reach rs p) ≤ leaf_store.limit
+  pub node_room : (p : Bits) (h : ℕ) → has_node (pushed rs) p ≡ true → ledger.Sound g (entered rs p h) → s.leaves.held + count (missing s.leaves.map) (reach rs p) ≤ s.leaves.limit
   node_room p h node sound = let a = node_number p h node in let b = sound.leaves_fit in let c = stored.leaves_limit in omega arith
 
   -- a standing route's leaves all have an entry
-  pub standing_room : (p : Bits) → has_node (pushed rs) p ≡ true → stands rs p ≡ true → leaf_store.held + count (missing leaf_store.map) (reach rs p) ≤ leaf_store.limit
-  standing_room p node s = let a = node_number p 0 node in let b = rehops rs p 0 s in let c = stored.leaves_held in let d = stored.leaves_sound.within in omega arith
+  pub standing_room : (p : Bits) → has_node (pushed rs) p ≡ true → stands rs p ≡ true → s.leaves.held + count (missing s.leaves.map) (reach rs p) ≤ s.leaves.limit
+  standing_room p node there = let a = node_number p 0 node in let b = rehops rs p 0 there in let c = stored.leaves_held in let d = stored.leaves_sound.within in omega arith
 
-  pub counted_reach : (p : Bits) (n : ℕ) → n ≡ min (count (missing leaf_store.map) (painted (has routes.map) (shape_at (pushed rs) p) p)) (2 ^ 64 - 1) → n ≡ min (count (missing leaf_store.map) (reach rs p)) (2 ^ 64 - 1)
-  counted_reach p n e = e ∙ ap (λ f. min (count (missing leaf_store.map) (painted f (shape_at (pushed rs) p) p)) (2 ^ 64 - 1)) has_routes
-
-  -- whether there is room at a node p, by what was counted
-  module _ (p : Bits) (h : ℕ) (node : has_node (pushed rs) p ≡ true) (added room : ℕ) (counted : added ≡ min (count (missing leaf_store.map) (reach rs p)) (2 ^ 64 - 1)) (left : room ≡ leaf_store.limit - leaf_store.held) where
-    pub node_full : room < added → ltb g.leaf_limit (length (matched (entered rs p h))) ≡ true
-    node_full less = lt-ltb _ _ (let n = node_number p h node in let k = stored.leaves_limit in let w = stored.leaves_sound.within in omega (arith, counted, left, less))
-
-    pub node_fits : added ≤ room → ltb g.leaf_limit (length (matched (entered rs p h))) ≡ false
-    node_fits most = le-ltb _ _ (let n = node_number p h node in let k = stored.leaves_limit in let w = stored.leaves_sound.within in let m = stored.leaves_sound.most in omega (arith, counted, left, most))
-
-  -- and below a leaf q
-  module _ (q p : Bits) (h : ℕ) (is_leaf : Leaf rs q) (over : above q p ≡ true) (added room : ℕ) (counted : added ≡ cond (present (leaf_store.map q)) (length p - length q) 1) (left : room ≡ leaf_store.limit - leaf_store.held) where
-    below_number : leaf_store.held + added ≡ length (matched (entered rs p h))
+  -- whether there is room below a leaf q, by what was counted
+  module _ (q p : Bits) (h : ℕ) (is_leaf : Leaf rs q) (over : above q p ≡ true) (added : ℕ) (counted : added ≡ cond (present (s.leaves.map q)) (length p - length q) 1) where
+    below_number : s.leaves.held + added ≡ length (matched (entered rs p h))
     below_number =
-        let is : present (leaf_store.map q) ≡ matches rs q = ap is_some (stored.leaf_hops q ∙ entry_leaf rs q is_leaf) ∙ some_hop rs q in
+        let is : present (s.leaves.map q) ≡ matches rs q = ap is_some (stored.leaf_hops q ∙ entry_leaf rs q is_leaf) ∙ some_hop rs q in
         let held = stored.leaves_held in
         elim (cases_Bool (matches rs q)) [
           | inl m ↦ (let b = below_matched rs q p h is_leaf over m in let c : added ≡ length p - length q = counted ∙ ap (λ b. cond b (length p - length q) 1) (is ∙ m) in omega arith)
           | inr m ↦ (let b = below_unmatched rs q p h is_leaf over m in let c : added ≡ 1 = counted ∙ ap (λ b. cond b (length p - length q) 1) (is ∙ m) in omega arith)
         ]
 
-    pub below_full : room < added → ltb g.leaf_limit (length (matched (entered rs p h))) ≡ true
-    below_full less = lt-ltb _ _ (let n = below_number in let k = stored.leaves_limit in let w = stored.leaves_sound.within in omega (arith, left, less))
+    pub below_full : s.leaves.limit - s.leaves.held < added → ltb g.leaf_limit (length (matched (entered rs p h))) ≡ true
+    below_full less = lt-ltb _ _ (let n = below_number in let k = stored.leaves_limit in let w = stored.leaves_sound.within in omega (arith, less))
 
-    pub below_fits : added ≤ room → ltb g.leaf_limit (length (matched (entered rs p h))) ≡ false
-    below_fits most = le-ltb _ _ (let n = below_number in let k = stored.leaves_limit in let w = stored.leaves_sound.within in omega (arith, left, most))
+    pub below_fits : added ≤ s.leaves.limit - s.leaves.held → ltb g.leaf_limit (length (matched (entered rs p h))) ≡ false
+    below_fits most = le-ltb _ _ (let n = below_number in let k = stored.leaves_limit in let w = stored.leaves_sound.within in omega (arith, most))
+
+-- whether there is room at a node p, which the edge leads to, by what was counted
+module _ (g : Given) (rs : Routes) (s : State) (serves : Serves g rs s) (most : s.width ≤ 128) (p : Bits) (h : ℕ) (node : has_node (pushed rs) p ≡ true)
+    (edge : Edge) (leads : Unfolds s.slots edge (shape_at (pushed rs) p)) (added : ℕ) (counts : Counts s.routes.map s.leaves.map s.slots (led s.slots edge) p added) where
+  counted : added ≡ min (count (missing s.leaves.map) (reach rs p)) (2 ^ 64 - 1)
+  counted =
+      counts_whole _ _ _ _ _ _ counts (shape_at (pushed rs) p) (taken leads) (fits g.width rs p serves.ledger.short (subst (λ w. w ≤ 128) (sym serves.stored.width) most) node)
+      ∙ ap (λ f. min (count (missing s.leaves.map) (painted f (shape_at (pushed rs) p) p)) (2 ^ 64 - 1)) (has_routes g rs s serves.stored)
+
+  pub node_full : s.leaves.limit - s.leaves.held < added → ltb g.leaf_limit (length (matched (entered rs p h))) ≡ true
+  node_full less = lt-ltb _ _ (let n = node_number g rs s serves.stored p h node in let k = serves.stored.leaves_limit in let w = serves.stored.leaves_sound.within in omega (arith, counted, less))
+
+  pub node_fits : added ≤ s.leaves.limit - s.leaves.held → ltb g.leaf_limit (length (matched (entered rs p h))) ≡ false
+  node_fits few = le-ltb _ _ (let n = node_number g rs s serves.stored p h node in let k = serves.stored.leaves_limit in let w = serves.stored.leaves_sound.within in let m = serves.stored.leaves_sound.most in omega (arith, counted, few))

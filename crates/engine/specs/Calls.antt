@@ -2,13 +2,12 @@
 --   given_by w a b        what the ledger knows: the width, and the limits of the stores of the routes and of the leaves
 --   call_of row c         the ledger's call, where row is what an address means
 --   answer_of x           the ledger's answer
---   hop_answer o          what a lookup answers
 --   counts_answer t       what a count answers
 --   change_answer r       what a change answers
 --   Answers g rs c x      the ledger answers the call c by x
 --   calls_of row ts       the calls of a list of turns, in their order
 --   answers_of ts         their answers
-use Rattle.std.specs.Prelude.{◌≡◌, ℕ, List, map, Some, None, Ok, Err, Option, Result}
+use Rattle.std.specs.Prelude.{◌≡◌, ℕ, List, map, Ok, Err, Result}
 use Rattle.bits.specs.Rows.{Bits}
 use Rattle.refusal.specs.declared.Refusal.{Refusal}
 use Rattle.tree.specs.Tree.{Routes}
@@ -35,10 +34,6 @@ answer_of (Hop h) = l.hop h
 answer_of NoRoute = l.none
 answer_of (Counts n m k) = l.counts n m k
 answer_of (Refused r) = l.refused r
-
-abbrev pub hop_answer : Option ℕ → l.Answer
-hop_answer None = l.none
-hop_answer (Some h) = l.hop h
 
 abbrev pub counts_answer : (ℕ × ℕ × ℕ) → l.Answer
 counts_answer t = l.counts t.0 t.1 t.2

@@ -1,10 +1,12 @@
--- What drawing the graph anew leaves, xs before and ys after. Assumes nothing.
---   Drew ys e t u d        in ys the old start e still leads to the tree t, the new one to u, and as many vertices were made as shapes of u were not there
---   Full xs ys t u w       the shapes of both trees, as one set, are more than the slots, and all is as it was
---   Grows xs ys e p r      r is one of these for the tree that e leads to, grown by the row p
---   Folds xs ys e m p r    r is one of these for that tree pruned along p, where the map m has the routes
---   Moves xs ys e f        f is the start e, and what it leads to is all that is left
-use Rattle.std.specs.Prelude.{◌≡◌, ◌+◌, ◌<◌, ◌≤◌, List, ◌++◌, Result, MatchResult}
+-- What drawing the graph anew leaves, the state s before and t after. Assumes nothing.
+--   Drew s t a b d         in t the old start still leads to the tree a, the new one to b, and as many vertices were made as shapes of b were not there
+--   Full s t a b w         the shapes of both trees, as one set, are more than the slots, and all is as it was
+--   Draws s t a b r        r is one of these
+--   Grows s t p r          r is one of these for the tree that the start leads to, grown by the row p
+--   Folds s t p r          r is one of these for that tree pruned along p, as if its route were gone
+--   Draft xs ys e n a b r  the edge r was made for the tree b in the slots ys, beside the tree a of the edge e, and n slots were in use before, in xs
+--   Moves s t e            the start is e, and what it leads to is all that is left
+use Rattle.std.specs.Prelude.{◌≡◌, ℕ, ◌+◌, ◌<◌, ◌≤◌, List, ◌++◌, length, Result, MatchResult}
 use Rattle.bits.specs.Lists.{different}
 use Rattle.bits.specs.Rows.{Bits}
 use Rattle.refusal.specs.declared.Refusal.{Refusal}
@@ -12,32 +14,47 @@ use Rattle.refusal.specs.declared.Refusal.TheVariants.{VerticesFull}
 use Rattle.tree.specs.Tree.{Shape, alike, shapes, grown}
 use Rattle.tree.specs.Changes.{pruned}
 use Rattle.tree.specs.Ledger.{vertex_slots}
-use Rattle.store.specs.Content.{Map}
-use Rattle.graph.specs.Slots.{Unfolds}
+use Rattle.graph.specs.Calls.{Kept}
+use Rattle.graph.specs.Grow.{Grown, Overfull}
+use Rattle.graph.specs.Slots.{Sound, Unfolds, in_use}
 use Rattle.graph.specs.View.{Holds}
 use Rattle.graph.specs.declared.edge.Edge.{Edge}
 use Rattle.graph.specs.declared.vertex.Vertex.{Vertex}
 use Rattle.path.specs.Prune.{others}
+use Rattle.engine.specs.State.{State, redrawn}
 use Rattle.engine.specs.declared.draw.Drawn.{Drawn}
 
-pub record Drew (ys : List Vertex) (start : Edge) (t u : Shape) (d : Drawn) : Type 0 where
-  pub old : Unfolds ys start t
-  pub new : Unfolds ys d.start u
-  pub number : different alike (shapes t ++ shapes u) ≡ different alike (shapes t) + d.made
-  pub room : different alike (shapes t ++ shapes u) ≤ vertex_slots
+pub record Drew (s t : State) (a b : Shape) (d : Drawn) : Type 0 where
+  pub rest : t ≡ redrawn s t.slots s.start
+  pub old : Unfolds t.slots s.start a
+  pub new : Unfolds t.slots d.start b
+  pub number : different alike (shapes a ++ shapes b) ≡ different alike (shapes a) + d.made
+  pub room : different alike (shapes a ++ shapes b) ≤ vertex_slots
 
-pub record Full (xs ys : List Vertex) (t u : Shape) (why : Refusal) : Type 0 where
+pub record Full (s t : State) (a b : Shape) (why : Refusal) : Type 0 where
   pub why_full : why ≡ VerticesFull
-  pub many : vertex_slots < different alike (shapes t ++ shapes u)
-  pub same : ys ≡ xs
+  pub many : vertex_slots < different alike (shapes a ++ shapes b)
+  pub same : t ≡ s
 
-abbrev pub Grows : List Vertex → List Vertex → Edge → Bits → Result Drawn Refusal → Type 0
-Grows xs ys start p r = (t : Shape) → Unfolds xs start t → Holds xs (shapes t) → MatchResult r (Drew ys start t (grown p t)) (Full xs ys t (grown p t))
+abbrev pub Draws : State → State → Shape → Shape → Result Drawn Refusal → Type 0
+Draws s t a b r = MatchResult r (Drew s t a b) (Full s t a b)
 
-abbrev pub Folds : List Vertex → List Vertex → Edge → Map → Bits → Result Drawn Refusal → Type 0
-Folds xs ys start m p r = (t : Shape) → Unfolds xs start t → Holds xs (shapes t) → MatchResult r (Drew ys start t (pruned (others m p) t p)) (Full xs ys t (pruned (others m p) t p))
+abbrev pub Grows : State → State → Bits → Result Drawn Refusal → Type 0
+Grows s t p r = (a : Shape) → Unfolds s.slots s.start a → Holds s.slots (shapes a) → Draws s t a (grown p a) r
 
-pub record Moves (xs ys : List Vertex) (start after : Edge) : Type 0 where
-  pub moved : after ≡ start
-  pub leads : (t : Shape) → Unfolds xs start t → Unfolds ys start t
-  pub holds : (t : Shape) → Unfolds xs start t → Holds ys (shapes t)
+abbrev pub Folds : State → State → Bits → Result Drawn Refusal → Type 0
+Folds s t p r = (a : Shape) → Unfolds s.slots s.start a → Holds s.slots (shapes a) → Draws s t a (pruned (others s.routes.map p) a p) r
+
+pub record Draft (xs ys : List Vertex) (start : Edge) (before : ℕ) (a b : Shape) (r : Result Edge Refusal) : Type 0 where
+  pub sound : ∥ Sound xs ∥₁
+  pub old : Unfolds xs start a
+  pub held : Holds xs (shapes a)
+  pub counted : before ≡ length (in_use xs)
+  pub long : length ys ≡ length xs
+  pub kept : Kept xs ys
+  pub made : MatchResult r (Grown ys (shapes a) b) (Overfull ys (shapes a) b)
+
+pub record Moves (s t : State) (start : Edge) : Type 0 where
+  pub rest : t ≡ redrawn s t.slots start
+  pub leads : (a : Shape) → Unfolds s.slots start a → Unfolds t.slots start a
+  pub holds : (a : Shape) → Unfolds s.slots start a → Holds t.slots (shapes a)

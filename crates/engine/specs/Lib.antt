@@ -1,3 +1,5 @@
+pub mod State
+pub mod Seen
 pub mod Calls
 pub mod Serves
 pub mod Draws

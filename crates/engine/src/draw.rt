@@ -1,8 +1,11 @@
 // Drawing the graph anew: the new path is made beside the old graph, and what is not needed any more is freed.
-ghost use Rattle.std.specs.Prelude.{◌≡◌};
+ghost use Rattle.std.specs.Prelude.{◌≡◌, List};
 ghost use Rattle.net.specs.Prefix.{row_of};
-ghost use Rattle.store.specs.Content.{Sound};
-ghost use Rattle.engine.specs.Draws.{Grows, Folds, Moves};
+ghost use Rattle.tree.specs.Tree.{Shape};
+ghost use Rattle.graph.specs.declared.vertex.Vertex.{Vertex};
+ghost use Rattle.engine.specs.State.{redrawn};
+ghost use Rattle.engine.specs.Seen.{state};
+ghost use Rattle.engine.specs.Draws.{Draft, Draws, Grows, Folds, Moves};
 
 use crate::engine::Engine;
 use graph::Edge;
@@ -21,34 +24,28 @@ pub(super) struct Drawn {
 impl<F: Family, R: Store, L: Store> Engine<F, R, L> {
     // The graph in which every node above the prefix branches too, beside the old one. Refused, the old one is left.
     pub(super) fn grow(&mut self, at: &Prefix) -> Result<Drawn, Refusal>
-        ensures routes { self.new.routes ≡ self.old.routes }
-        ensures leaves { self.new.leaves ≡ self.old.leaves }
-        ensures start { self.new.start ≡ self.old.start }
-        ensures grows { Grows self.old.table.slots self.new.table.slots self.old.start (row_of at.now) result }
+        ensures { Grows (state self.old) (state self.new) (row_of at.now) result }
     {
         let before = self.table.count();
-        match self.table.grow(self.start, at) {
-            Ok(start) => {
-                let made = self.table.count().saturating_sub(before) as u64;
-                Ok(Drawn { start, made })
-            }
-            Err(refusal) => {
-                self.table.keep_only(self.start);
-                Err(refusal)
-            }
-        }
+        let start = self.table.grow(self.start, at);
+        self.drawn(before, start)
     }
 
     // The graph folded back along the prefix's path, as if its route were gone, beside the old one. Refused, the old one is left.
     pub(super) fn fold(&mut self, at: &Prefix) -> Result<Drawn, Refusal>
-        ensures routes { self.new.routes ≡ self.old.routes }
-        ensures leaves { self.new.leaves ≡ self.old.leaves }
-        ensures start { self.new.start ≡ self.old.start }
-        ensures folds { Sound (R.Store.kept self.old.routes) (R.Store.content self.old.routes) →
-            Folds self.old.table.slots self.new.table.slots self.old.start (R.Store.content self.old.routes).map (row_of at.now) result }
+        ensures { Folds (state self.old) (state self.new) (row_of at.now) result }
     {
         let before = self.table.count();
-        match prune(&mut self.table, &self.routes, self.start, at) {
+        let start = prune(&mut self.table, &self.routes, self.start, at);
+        self.drawn(before, start)
+    }
+
+    // What came of drawing: the new start with the number of vertices made, or, refused, the old graph alone.
+    fn drawn(&mut self, before: usize, start: Result<Edge, Refusal>) -> Result<Drawn, Refusal>
+        ensures { (xs : List Vertex) (a b : Shape) → Draft xs self.old.table.slots self.old.start before a b start →
+            Draws (redrawn (state self.old) xs self.old.start) (state self.new) a b result }
+    {
+        match start {
             Ok(start) => {
                 let made = self.table.count().saturating_sub(before) as u64;
                 Ok(Drawn { start, made })
@@ -62,9 +59,7 @@ impl<F: Family, R: Store, L: Store> Engine<F, R, L> {
 
     // The start moves, and the vertices that it does not reach are freed.
     pub(super) fn redraw(&mut self, start: Edge)
-        ensures routes { self.new.routes ≡ self.old.routes }
-        ensures leaves { self.new.leaves ≡ self.old.leaves }
-        ensures moves { Moves self.old.table.slots self.new.table.slots start self.new.start }
+        ensures { Moves (state self.old) (state self.new) start }
     {
         self.start = start;
         self.table.keep_only(start);

@@ -1,32 +1,37 @@
 // An engine for addresses of the family F, over a store of the routes and a store of the leaves.
-ghost use Rattle.std.specs.Prelude.{◌≡◌, []};
-ghost use Rattle.tree.specs.Ledger.{Given, lookup as looking, count as counting};
-ghost use Rattle.tree.specs.Tree.{Routes};
-ghost use Rattle.engine.specs.Serves.{Serves, Ran};
-ghost use Rattle.engine.specs.Calls.{Answers, hop_answer, counts_answer, given_by};
+ghost use Rattle.std.specs.Prelude.{◌≤◌};
 
 use graph::{Edge, Table};
 use net::Family;
 use std::marker::PhantomData;
 use store::Store;
 
+// The ghost field ties an engine to what its family and its stores say of themselves, so that clauses name its state alone. That it serves
+// a list of routes is no fact of its type: each promise is for every list that it serves.
 #[derive(Drop)]
-pub struct Engine<F, R, L> {
+pub struct Engine<F: Family, R: Store, L: Store> {
     pub(super) routes: R,
     pub(super) leaves: L,
     pub(super) table: Table,
     pub(super) start: Edge,
     pub(super) family: PhantomData<F>,
+    ghost narrow: { F.W ≤ 128 },
 }
 
 impl<F: Family, R: Store, L: Store> Engine<F, R, L> {
+    ghost use Rattle.std.specs.Prelude.{◌≡◌, [], length};
+    ghost use Rattle.graph.specs.Slots.{in_use};
+    ghost use Rattle.tree.specs.Ledger.{Given, lookup as looking, looked, count as counting};
+    ghost use Rattle.tree.specs.Tree.{Routes};
+    ghost use Rattle.engine.specs.Seen.{state};
+    ghost use Rattle.engine.specs.Serves.{Numbered, Serves, Ran};
+    ghost use Rattle.engine.specs.Calls.{Answers, counts_answer, given_by};
+
     // Sets an engine up over two stores, and empties both. The law over runs holds of it, with no calls yet.
-    pub fn new(routes: R, leaves: L) -> Engine<F, R, L>
-        ensures serves { Serves (given_by F.Family.wide (R.Store.content routes) (L.Store.content leaves)) R.Store.kept R.Store.content L.Store.kept L.Store.content [] result }
-        ensures ran { Ran (given_by F.Family.wide (R.Store.content routes) (L.Store.content leaves)) R.Store.kept R.Store.content L.Store.kept L.Store.content [] [] result }
+    pub fn new(mut routes: R, mut leaves: L) -> Engine<F, R, L>
+        ensures serves { Serves (given_by F.W (R.content routes) (L.content leaves)) [] (state result) }
+        ensures ran { Ran (given_by F.W (R.content routes) (L.content leaves)) [] [] (state result) }
     {
-        let mut routes = routes;
-        let mut leaves = leaves;
         routes.clear();
         leaves.clear();
         Engine {
@@ -40,13 +45,12 @@ impl<F: Family, R: Store, L: Store> Engine<F, R, L> {
 
     // The hop of the address's leaf, or none.
     pub fn lookup(&self, address: &F) -> Option<u16>
-        ensures { (g : Given) (rs : Routes) → g.width ≡ F.Family.wide → Serves g R.Store.kept R.Store.content L.Store.kept L.Store.content rs self.now →
-            Answers g rs (looking (F.Family.row address.now)) (hop_answer result) }
+        ensures { (g : Given) (rs : Routes) → Serves g rs (state self.now) →
+            Answers g rs (looking (F.Family.row address.now)) (looked result) }
     {
-        let Some(depth) = self.table.walk(self.start, address) else {
-            return None;
-        };
+        let depth = self.table.walk(self.start, address)?;
         let leaf = address.front(depth);
+        // Taken apart, and not handed on as it is: a leaf without an entry has no hop.
         let Some(hop) = self.leaves.get(&leaf) else {
             return None;
         };
@@ -55,8 +59,8 @@ impl<F: Family, R: Store, L: Store> Engine<F, R, L> {
 
     // Standing routes, matched leaves, vertices.
     pub fn count(&self) -> (u64, u64, u64)
-        ensures { (g : Given) (rs : Routes) → Serves g R.Store.kept R.Store.content L.Store.kept L.Store.content rs self.now →
-            Answers g rs counting (counts_answer result) }
+        ensures numbers { result ≡ ((state self.now).routes.held, (state self.now).leaves.held, length (in_use (state self.now).slots)) }
+        ensures ledger { (g : Given) (rs : Routes) → Numbered rs (state self.now) → Answers g rs counting (counts_answer result) }
     {
         (
             self.routes.held(),

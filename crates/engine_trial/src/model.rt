@@ -1,151 +1,69 @@
 // A plain model: the routes in a list, and everything else found from them anew at each call.
+use crate::census::{Seen, see};
+use crate::row::Row;
+use engine::{Answer, Call};
+use refusal::Refusal;
 use std::alloc::{AllocError, Global};
-
-// A row of up to 128 bits, in two halves, with zeros behind it.
-#[derive(Clone, Copy)]
-pub struct Row {
-    pub first: u64,
-    pub second: u64,
-    pub len: usize,
-}
+use std::iter::once;
 
 #[derive(Clone, Copy)]
 pub struct Route {
-    row: Row,
-    hop: u64,
-}
-
-#[derive(Clone, Copy)]
-pub enum Expected {
-    Changed(u64),
-    Hop(u64),
-    Nothing,
-    Counts(u64, u64, u64),
-    Refused(u8),
-}
-
-// The shapes of a tree, each by the numbers of its sides; 0 is the leaf. And how many leaves are matched.
-#[derive(Drop)]
-struct Census {
-    forks: Vec<(usize, usize)>,
-    matched: u64,
+    pub row: Row,
+    pub hop: u16,
 }
 
 #[derive(Drop)]
 pub struct Model {
+    heap: Global,
     routes: Vec<Route>,
-    width: usize,
+    width: u64,
     route_limit: u64,
     leaf_limit: u64,
 }
 
-// Whether the first n bits of two rows agree.
-fn agree(a: &Row, b: &Row, n: usize) -> bool {
-    if n == 0 {
-        return true;
-    }
-    if n <= 64 {
-        return (a.first ^ b.first) >> (64 - n) == 0;
-    }
-    let below = n.min(128) - 64;
-    a.first == b.first && (a.second ^ b.second) >> (64 - below) == 0
+// Why the model makes no change: the call is refused, or the trial itself is out of memory.
+#[derive(Debug, Drop)]
+enum Failure {
+    Refused(Refusal),
+    Memory(AllocError),
 }
 
-// The first n bits of a word, and zeros behind them.
-fn cut(x: u64, n: usize) -> u64 {
-    if n == 0 {
-        0
-    } else if n >= 64 {
-        x
-    } else {
-        (x >> (64 - n)) << (64 - n)
+impl From<Refusal> for Failure {
+    fn from(refusal: Refusal) -> Failure {
+        Failure::Refused(refusal)
     }
 }
 
-pub fn front(row: &Row, n: usize) -> Row {
-    Row {
-        first: cut(row.first, n),
-        second: cut(row.second, n.saturating_sub(64)),
-        len: n,
+impl From<AllocError> for Failure {
+    fn from(error: AllocError) -> Failure {
+        Failure::Memory(error)
     }
 }
 
-// The row with one bit more.
-fn child(row: &Row, one: bool) -> Row {
-    let at = row.len;
-    let mut first = row.first;
-    let mut second = row.second;
-    if one && at < 64 {
-        first |= 1 << (63 - at);
-    } else if one && at < 128 {
-        second |= 1 << (127 - at);
-    }
-    Row {
-        first,
-        second,
-        len: at.saturating_add(1),
-    }
+// How many vertices there are for the shapes before and after a change.
+const MOST_SHAPES: u64 = 2_048;
+
+// The hop of the longest route that a row begins with.
+pub fn longest(routes: &[Route], row: &Row) -> Option<u16> {
+    routes
+        .iter()
+        .filter(|r| r.row.begins(row))
+        .max_by_key(|r| r.row.len())
+        .map(|r| r.hop)
 }
 
-fn branches(routes: &[Route], node: &Row) -> bool {
-    for r in routes {
-        if r.row.len > node.len && agree(&r.row, node, node.len) {
-            return true;
-        }
+// The rule once more, as the other trial has it: a model leans on nothing that it tries.
+fn hop_of(number: u64) -> Result<u16, Refusal> {
+    match u16::try_from(number) {
+        Ok(hop) if hop != 0 => Ok(hop),
+        _ => Err(Refusal::Hop),
     }
-    false
-}
-
-fn longest(routes: &[Route], row: &Row) -> Option<u64> {
-    let mut best: Option<Route> = None;
-    for r in routes {
-        if r.row.len <= row.len && agree(&r.row, row, r.row.len) {
-            match best {
-                Some(b) if b.row.len >= r.row.len => {}
-                _ => best = Some(*r),
-            }
-        }
-    }
-    match best {
-        Some(b) => Some(b.hop),
-        None => None,
-    }
-}
-
-// The number of the shape with these sides.
-fn number(census: &mut Census, zero: usize, one: usize) -> Result<usize, AllocError> {
-    let mut at: usize = 1;
-    for (z, o) in census.forks.iter().copied() {
-        if z == zero && o == one {
-            return Ok(at);
-        }
-        at = at.saturating_add(1);
-    }
-    census.forks.push((zero, one))?;
-    Ok(at)
-}
-
-// The number of the shape of a node, and all that lies below it into the census. No node is more than `deepest` bits further down.
-fn visit(
-    routes: &[Route],
-    node: Row,
-    deepest: usize,
-    census: &mut Census,
-) -> Result<usize, AllocError> {
-    if deepest == 0 || !branches(routes, &node) {
-        if longest(routes, &node).is_some() {
-            census.matched = census.matched.saturating_add(1);
-        }
-        return Ok(0);
-    }
-    let zero = visit(routes, child(&node, false), deepest - 1, census)?;
-    let one = visit(routes, child(&node, true), deepest - 1, census)?;
-    number(census, zero, one)
 }
 
 impl Model {
-    pub fn new(heap: Global, width: usize, route_limit: u64, leaf_limit: u64) -> Model {
+    pub fn new(heap: Global, width: u64, route_limit: u64, leaf_limit: u64) -> Model {
         Model {
+            heap,
             routes: Vec::new(heap),
             width,
             route_limit,
@@ -153,129 +71,87 @@ impl Model {
         }
     }
 
-    fn place(&self, row: &Row) -> Option<usize> {
-        for (i, r) in self.routes.iter().enumerate() {
-            if r.row.len == row.len && agree(&r.row, row, row.len) {
-                return Some(i);
-            }
+    // What an engine should answer.
+    pub fn step(&mut self, call: Call<Row>) -> Result<Answer, AllocError> {
+        match self.answer(call) {
+            Ok(answer) => Ok(answer),
+            Err(Failure::Refused(refusal)) => Ok(Answer::Refused(refusal)),
+            Err(Failure::Memory(error)) => Err(error),
         }
-        None
-    }
-}
-
-// What is seen of two lists of routes, before and after a change.
-#[derive(Drop)]
-struct Seen {
-    shapes_before: u64,
-    shapes_both: u64,
-    matched_after: u64,
-}
-
-fn see(heap: Global, before: &[Route], after: &[Route]) -> Result<Seen, AllocError> {
-    let root = Row {
-        first: 0,
-        second: 0,
-        len: 0,
-    };
-    let mut census = Census {
-        forks: Vec::new(heap),
-        matched: 0,
-    };
-    let _ = visit(before, root, 128, &mut census)?;
-    let shapes_before = census.forks.len() as u64;
-    census.matched = 0;
-    let _ = visit(after, root, 128, &mut census)?;
-    Ok(Seen {
-        shapes_before,
-        shapes_both: census.forks.len() as u64,
-        matched_after: census.matched,
-    })
-}
-
-impl Model {
-    // 1 or 2 where the prefix is refused.
-    fn bad_prefix(&self, row: &Row, len: u64) -> Option<u8> {
-        if len > self.width as u64 {
-            return Some(1);
-        }
-        let kept = front(row, len as usize);
-        if kept.first != row.first || kept.second != row.second {
-            return Some(2);
-        }
-        None
     }
 
-    pub fn announce(
-        &mut self,
-        heap: Global,
-        row: &Row,
-        len: u64,
-        hop: u64,
-    ) -> Result<Expected, AllocError> {
-        if let Some(number) = self.bad_prefix(row, len) {
-            return Ok(Expected::Refused(number));
-        }
-        if hop == 0 || hop > 65_535 {
-            return Ok(Expected::Refused(3));
-        }
-        let at = front(row, len.min(128) as usize);
-        if let Some(i) = self.place(&at) {
-            if i < self.routes.len() {
-                self.routes[i] = Route { row: at, hop };
+    fn answer(&mut self, call: Call<Row>) -> Result<Answer, Failure> {
+        match call {
+            Call::Announce(row, len, hop) => Ok(Answer::Changed(self.announce(&row, len, hop)?)),
+            Call::Withdraw(row, len) => Ok(Answer::Changed(self.withdraw(&row, len)?)),
+            Call::Lookup(row) => Ok(Answer::from(longest(self.routes.as_slice(), &row))),
+            Call::Count => {
+                let seen = see(self.heap, self.routes.as_slice(), self.routes.as_slice())?;
+                Ok(Answer::Counts(
+                    self.routes.len() as u64,
+                    seen.matched_after,
+                    seen.shapes_both,
+                ))
             }
-            return Ok(Expected::Changed(0));
+        }
+    }
+
+    // The row of a prefix.
+    fn network(&self, row: &Row, len: u64) -> Result<Row, Refusal> {
+        if len > self.width {
+            return Err(Refusal::Length);
+        }
+        let front = row.front(len);
+        if front.front(row.len()) != *row {
+            return Err(Refusal::HostBits);
+        }
+        Ok(front)
+    }
+
+    fn announce(&mut self, row: &Row, len: u64, hop: u64) -> Result<u64, Failure> {
+        let row = self.network(row, len)?;
+        let hop = hop_of(hop)?;
+        if let Some(i) = self.routes.iter().position(|r| r.row == row) {
+            self.routes[i].hop = hop;
+            return Ok(0);
         }
         if self.routes.len() as u64 == self.route_limit {
-            return Ok(Expected::Refused(5));
+            return Err(Failure::Refused(Refusal::RoutesFull));
         }
-        let mut after = self.routes.as_slice().to_vec(heap)?;
-        after.push(Route { row: at, hop })?;
-        let seen = see(heap, self.routes.as_slice(), after.as_slice())?;
+        let after: Vec<Route> = self
+            .routes
+            .iter()
+            .copied()
+            .chain(once(Route { row, hop }))
+            .collect(self.heap)?;
+        let seen = see(self.heap, self.routes.as_slice(), after.as_slice())?;
         if seen.matched_after > self.leaf_limit {
-            return Ok(Expected::Refused(6));
+            return Err(Failure::Refused(Refusal::LeavesFull));
         }
-        self.settle(after, &seen)
+        self.settle(after, seen)
     }
 
-    pub fn withdraw(&mut self, heap: Global, row: &Row, len: u64) -> Result<Expected, AllocError> {
-        if let Some(number) = self.bad_prefix(row, len) {
-            return Ok(Expected::Refused(number));
+    fn withdraw(&mut self, row: &Row, len: u64) -> Result<u64, Failure> {
+        let row = self.network(row, len)?;
+        let after: Vec<Route> = self
+            .routes
+            .iter()
+            .copied()
+            .filter(|r| r.row != row)
+            .collect(self.heap)?;
+        if after.len() == self.routes.len() {
+            return Err(Failure::Refused(Refusal::Unknown));
         }
-        let at = front(row, len.min(128) as usize);
-        let Some(i) = self.place(&at) else {
-            return Ok(Expected::Refused(4));
-        };
-        let mut after = Vec::new(heap);
-        for (k, r) in self.routes.iter().enumerate() {
-            if k != i {
-                after.push(*r)?;
-            }
-        }
-        let seen = see(heap, self.routes.as_slice(), after.as_slice())?;
-        self.settle(after, &seen)
+        let seen = see(self.heap, self.routes.as_slice(), after.as_slice())?;
+        self.settle(after, seen)
     }
 
-    fn settle(&mut self, after: Vec<Route>, seen: &Seen) -> Result<Expected, AllocError> {
-        if seen.shapes_both > 2_048 {
-            return Ok(Expected::Refused(7));
+    // Takes new routes, if there is room for their shapes; answers how many shapes are new.
+    fn settle(&mut self, after: Vec<Route>, seen: Seen) -> Result<u64, Failure> {
+        if seen.shapes_both > MOST_SHAPES {
+            return Err(Failure::Refused(Refusal::VerticesFull));
         }
         self.routes = after;
-        Ok(Expected::Changed(seen.shapes_both.saturating_sub(seen.shapes_before)))
-    }
-
-    pub fn lookup(&self, row: &Row) -> Expected {
-        match longest(self.routes.as_slice(), row) {
-            Some(hop) => Expected::Hop(hop),
-            None => Expected::Nothing,
-        }
-    }
-
-    pub fn count(&self, heap: Global) -> Result<Expected, AllocError> {
-        let seen = see(heap, self.routes.as_slice(), self.routes.as_slice())?;
-        Ok(Expected::Counts(
-            self.routes.len() as u64,
-            seen.matched_after,
-            seen.shapes_both,
-        ))
+        Ok(seen.shapes_both.saturating_sub(seen.shapes_before))
     }
 }

@@ -1,4 +1,5 @@
 // Answers text lines on the standard input by an engine for IPv6 addresses.
+// A program is a crate of its own here, so one program for both families would be no plainer than these few lines.
 #![tactic(auto)]
 
 use net::Ipv6;

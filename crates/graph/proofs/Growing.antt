@@ -14,7 +14,7 @@ use Rattle.bits.proofs.Tests.{only_is}
 use Rattle.refusal.specs.declared.Refusal.{Refusal}
 use Rattle.tree.specs.Tree.{Shape, leaf, fork, grown, shapes, alike}
 use Rattle.tree.proofs.Shapes.{alike_equality}
-use Rattle.graph.specs.Slots.{at, next, led, Unfolds, unfolds_end, unfolds_to, Sound, in_use}
+use Rattle.graph.specs.Slots.{used, at, next, led, Unfolds, unfolds_end, unfolds_to, Sound, in_use}
 use Rattle.graph.specs.Calls.{Kept, Unheld, Made, Refused}
 use Rattle.graph.specs.View.{Holds}
 use Rattle.graph.specs.Grow.{New, Pathed, Stopped, Paths, Grown, Overfull, Grows}
@@ -54,7 +54,7 @@ taken {xs} {e} {t} h = subst (λ f. Unfolds xs f t) (sym (led_unfolds h)) h
 
 pub kept_then : (xs ys zs : List Vertex) → Kept xs ys → Kept ys zs → Kept xs zs
 kept_then xs ys zs k l = record {
-  slots = λ n u. let e = k.slots n u in l.slots n (ap (λ v. v.used) e ∙ u) ∙ e;
+  slots = λ n u. let e = k.slots n u in l.slots n (ap used e ∙ u) ∙ e;
   shapes = λ e t h. l.shapes e t (k.shapes e t h);
 }
 
@@ -97,7 +97,7 @@ module _ (xs ys : List Vertex) (a b c : Shape) (sub : (s : Shape) → Mem s (sha
         | inl same ↦ inr ∣ (fork a b, ∣ Memᴰ.head refl ∣₁, rw same h) ∣₁
         | inr apart ↦ (
             let other : at zs n ≡ at ys n = made.others n (λ f. apart (sym (to_is (sym is ∙ f)))) in
-            elim (new n (ap (λ v. v.used) (sym other) ∙ u)) [ inl old ↦ inl old | inr some ↦ inr (∥∥₁_map some λ (s, m, l). (s, sub s m, kept.shapes (To n) s l)) ])
+            elim (new n (ap used (sym other) ∙ u)) [ inl old ↦ inl old | inr some ↦ inr (∥∥₁_map some λ (s, m, l). (s, sub s m, kept.shapes (To n) s l)) ])
       ]
 
 -- the edge to a side leads to that side's tree
@@ -114,14 +114,13 @@ module _ (xs ys : List Vertex) (node : Edge) (t : Shape) (h : Unfolds xs (led xs
     abbrev Forks : Edge → Edge → Type 0
     Forks z o = (a b : Shape) → Unfolds ys (led ys z) a → Unfolds ys (led ys o) b → MatchResult r (Made ys zs (fork a b)) (Refused ys zs (fork a b))
 
-    pub up_zero : row ≡ false ∷ p → Pathed xs ys (grown p (side false t)) e → beside ≡ next xs (led xs node) true → Forks e beside → MatchResult r (Pathed xs zs (grown row t)) (Stopped xs zs (grown row t))
-    up_zero is path to forks = rw (is, grown_zero p t) (MatchResult-weaker r
+    pub up : (b : Bool) → row ≡ b ∷ p → Pathed xs ys (grown p (side b t)) e → beside ≡ next xs (led xs node) (not b) → Forks (cond b beside e) (cond b e beside)
+        → MatchResult r (Pathed xs zs (grown row t)) (Stopped xs zs (grown row t))
+    up false is path to forks = rw (is, grown_zero p t) (MatchResult-weaker r
         (forks (grown p (side false t)) (side true t) (taken path.unfolds) (taken (kept.shapes beside (side true t) (rw to (unfolds_side true h)))))
         (λ f made. made_up xs ys _ _ (grown p (side false t)) (left_within _ _) zs f path.new more made)
         (λ why full. refused_up xs ys _ _ (grown p (side false t)) (left_within _ _) zs why path.new full))
-
-    pub up_one : row ≡ true ∷ p → Pathed xs ys (grown p (side true t)) e → beside ≡ next xs (led xs node) false → Forks beside e → MatchResult r (Pathed xs zs (grown row t)) (Stopped xs zs (grown row t))
-    up_one is path to forks = rw (is, grown_one p t) (MatchResult-weaker r
+    up true is path to forks = rw (is, grown_one p t) (MatchResult-weaker r
         (forks (side false t) (grown p (side true t)) (taken (kept.shapes beside (side false t) (rw to (unfolds_side false h)))) (taken path.unfolds))
         (λ f made. made_up xs ys _ _ (grown p (side true t)) (right_within _ _) zs f path.new more made)
         (λ why full. refused_up xs ys _ _ (grown p (side true t)) (right_within _ _) zs why path.new full))
@@ -136,7 +135,7 @@ pathed_here xs node row d e t past is h = rw (drop_all d row past) (record { unf
 
 -- the whole path
 module _ (xs ys : List Vertex) (ss : List Shape) (t : Shape) (kept : Kept xs ys) (sound : ∥ Sound ys ∥₁) (long : length ys ≡ 2048) (held : Holds xs ss) where
-  only_grown : New xs ys (shapes t) → (n : ℕ) → (at ys n).used ≡ true → ∥ ((s : Shape) × Mem s (ss ++ shapes t) × Unfolds ys (To n) s) ∥₁
+  only_grown : New xs ys (shapes t) → (n : ℕ) → used (at ys n) ≡ true → ∥ ((s : Shape) × Mem s (ss ++ shapes t) × Unfolds ys (To n) s) ∥₁
   only_grown new n u = elim (new n u) [
     | inl old ↦ ∥∥₁_map (held.only n old) λ (s, m, h). (s, ∥∥₁_map m (λ d. member_left (shapes t) d), kept.shapes (To n) s h)
     | inr some ↦ ∥∥₁_map some λ (s, m, h). (s, ∥∥₁_map m (λ d. member_right ss d), h)

@@ -3,7 +3,6 @@ pub mod Edges
 pub mod Unfold
 pub mod Count
 pub mod Added
-pub mod Finding
 pub mod Forking
 pub mod View
 pub mod Depth
@@ -11,4 +10,5 @@ pub mod Marking
 pub mod Sweeping
 pub mod Back
 pub mod Growing
+pub mod Descending
 pub mod Walking

@@ -7,7 +7,7 @@ use native.Mathlib.Nat.{ℕ_set}
 use Rattle.bits.specs.Lists.{different}
 use Rattle.tree.specs.Tree.{Routes, Shape, fork, alike, shapes, pushed}
 use Rattle.tree.specs.Graph.{Edge as Way, to, Inside, Closed, EndsAtLeaves, Reads, reads_end, reads_to, OneForEach}
-use Rattle.graph.specs.Slots.{at, next, led, Unfolds, unfolds_end, unfolds_to, Leads, Sound, in_use}
+use Rattle.graph.specs.Slots.{used, zero_of, one_of, at, next, led, Unfolds, unfolds_end, unfolds_to, Leads, Sound, in_use}
 use Rattle.graph.specs.View.{way, out, graph_of, Holds}
 use Rattle.graph.specs.declared.edge.Edge.{Edge}
 use Rattle.graph.specs.declared.edge.Edge.TheVariants.{End, To}
@@ -40,7 +40,7 @@ at_least xs ss all =
     (λ s m. ∥∥₁_map (all s m) λ (n, h). (n, used_listed xs n (leads_of_unfolds h), h))
 
 -- at most one
-pub at_most : (xs : List Vertex) (ss : List Shape) → ∥ Sound xs ∥₁ → ((n : ℕ) → (at xs n).used ≡ true → ∥ ((s : Shape) × Mem s ss × Unfolds xs (To n) s) ∥₁) → length (in_use xs) ≤ different alike ss
+pub at_most : (xs : List Vertex) (ss : List Shape) → ∥ Sound xs ∥₁ → ((n : ℕ) → used (at xs n) ≡ true → ∥ ((s : Shape) × Mem s ss × Unfolds xs (To n) s) ∥₁) → length (in_use xs) ≤ different alike ss
 at_most xs ss sound only = omega (arith, most, different_no_repeats eqb_equality (in_use xs) (listed_once 0 xs), length_once_each alike_equality ss)
   where
     apart : (m n : ℕ) (s : Shape) → Unfolds xs (To m) s → Unfolds xs (To n) s → m ≡ n
@@ -57,7 +57,7 @@ pub none : (xs : List Vertex) → in_use xs ≡ [] → Holds xs []
 none xs h = record { only = λ n u. absurd (not-mem-nil (subst (Mem n) h (used_listed xs n u))); every = λ s m. absurd (not-mem-nil m) }
 
 -- the shapes of the slots of a list
-listing : (xs : List Vertex) → Sound xs → (ns : List ℕ) → ((n : ℕ) → Mem n ns → (at xs n).used ≡ true)
+listing : (xs : List Vertex) → Sound xs → (ns : List ℕ) → ((n : ℕ) → Mem n ns → used (at xs n) ≡ true)
     → ∥ ((ss : List Shape) × ((n : ℕ) → Mem n ns → ∥ ((s : Shape) × Mem s ss × Unfolds xs (To n) s) ∥₁) × ((s : Shape) → Mem s ss → ∥ ((n : ℕ) × Unfolds xs (To n) s) ∥₁)) ∥₁
 listing xs sound [] used = ∣ ([], (λ n m. absurd (not-mem-nil m)), (λ s m. absurd (not-mem-nil m))) ∣₁
 listing xs sound (k ∷ ns) used =
@@ -79,11 +79,11 @@ reads_one : {edge : ℕ → Bool → Way} {e : Way} {s t : Shape} → Reads edge
 reads_one reads_end reads_end = refl
 reads_one (reads_to l r) (reads_to l' r') = let left = reads_one l l' in let right = reads_one r r' in cc
 
-shape_of : (xs : List Vertex) (n : ℕ) → ∥ Sound xs ∥₁ → (at xs n).used ≡ true → ∥ ((t : Shape) × Unfolds xs (To n) t) ∥₁
+shape_of : (xs : List Vertex) (n : ℕ) → ∥ Sound xs ∥₁ → used (at xs n) ≡ true → ∥ ((t : Shape) × Unfolds xs (To n) t) ∥₁
 shape_of xs n sound u = ∥∥₁_elim sound ∥∥₁_prop λ s. s.unfolds n u
 
 -- what a slot in use reads is what it unfolds to
-unfolds_of_reads : (xs : List Vertex) (n : ℕ) (t : Shape) → ∥ Sound xs ∥₁ → (at xs n).used ≡ true → Reads (out xs) (to n) t → ∥ Unfolds xs (To n) t ∥₁
+unfolds_of_reads : (xs : List Vertex) (n : ℕ) (t : Shape) → ∥ Sound xs ∥₁ → used (at xs n) ≡ true → Reads (out xs) (to n) t → ∥ Unfolds xs (To n) t ∥₁
 unfolds_of_reads xs n t sound u h = ∥∥₁_map (shape_of xs n sound u) λ (s, k). subst (Unfolds xs (To n)) (reads_one (reads_of_unfolds k) h) k
 
 inside : (xs : List Vertex) (start e : Edge) → Leads xs e → Inside (graph_of xs start) (way e)
@@ -93,12 +93,12 @@ inside xs start (To n) h = used_listed xs n h
 pub closed : (xs : List Vertex) (e : Edge) → ∥ Sound xs ∥₁ → Closed (graph_of xs (led xs e))
 closed xs e sound = record { starts = inside xs (led xs e) (led xs e) (led_leads xs e); edges = edges }
   where
-    both : (v : ℕ) → Mem v (in_use xs) → Leads xs (at xs v).zero × Leads xs (at xs v).one
+    both : (v : ℕ) → Mem v (in_use xs) → Leads xs (zero_of (at xs v)) × Leads xs (one_of (at xs v))
     both v m = sides_lead xs v (shape_of xs v sound (listed_in_use xs v m))
 
     edges : (v : ℕ) (b : Bool) → Mem v (in_use xs) → Inside (graph_of xs (led xs e)) (out xs v b)
-    edges v false m = inside xs (led xs e) (at xs v).zero (both v m).0
-    edges v true m = inside xs (led xs e) (at xs v).one (both v m).1
+    edges v false m = inside xs (led xs e) (zero_of (at xs v)) (both v m).0
+    edges v true m = inside xs (led xs e) (one_of (at xs v)) (both v m).1
 
 pub one_for_each : (rs : Routes) (xs : List Vertex) (start : Edge) → ∥ Sound xs ∥₁ → Unfolds xs start (pushed rs) → Holds xs (shapes (pushed rs)) → OneForEach rs (graph_of xs start)
 one_for_each rs xs start sound whole holds = record {

@@ -1,50 +1,55 @@
--- The walk of a row, some bits on. Assumes nothing.
-use Rattle.std.proofs.Common.{◌≡◌, ℕ, suc, ◌+◌, ◌<◌, ◌≤◌, Bool, false, List, length, get_or, drop, Some, None, Option, sym, refl, ap, ◌∙◌, add-zero, arith}
-use Rattle.std.proofs.lemmas.List.{drop_all, drop_more}
+-- The walk of a row in the tree that an edge unfolds to. Assumes nothing.
+use Rattle.std.proofs.Common.{◌≡◌, ℕ, ◌≤◌, true, false, List, [], ◌∷◌, ◌++◌, length, take, drop, Some, None, sym, refl, ap, ◌∙◌, subst, inl, inr, arith}
+use mathlib.Core.Logic.{∥∥₁_elim}
+use denote.Struct.Props.{props}
+use Rattle.std.proofs.lemmas.Bool.{true≢false}
+use Rattle.std.proofs.lemmas.List.{take_all, take-append-drop, length-take-le}
 use Rattle.bits.specs.Rows.{Bits}
+use Rattle.tree.specs.Tree.{Shape, leaf, has_node, shape_at}
 use Rattle.tree.specs.Graph.{walk, more}
-use Rattle.graph.specs.Slots.{next, led}
+use Rattle.graph.specs.Descend.{SpotOf, Descends}
+use Rattle.graph.specs.Slots.{Sound, is_end, led, Unfolds, unfolds_end, unfolds_to}
 use Rattle.graph.specs.View.{way, out}
 use Rattle.graph.specs.declared.edge.Edge.{Edge}
 use Rattle.graph.specs.declared.edge.Edge.TheVariants.{End, To}
+use Rattle.graph.specs.declared.spot.Spot.{Spot}
 use Rattle.graph.specs.declared.vertex.Vertex.{Vertex}
+use Rattle.graph.proofs.Unfold.{each_unfolds}
+use Rattle.graph.proofs.Descending.{is_leaf, leaf_is, end_leaf, vertex_forks}
 
--- d bits more
-abbrev pub further : ℕ → Option ℕ → Option ℕ
-further d None = None
-further d (Some n) = Some (d + n)
+-- to a leaf, whatever bits come after it
+pub walk_to_leaf : {xs : List Vertex} {e : Edge} {t : Shape} (q r : Bits) → Unfolds xs e t → has_node t q ≡ true → shape_at t q ≡ leaf → walk (out xs) (way e) (q ++ r) ≡ Some (length q)
+walk_to_leaf [] r unfolds_end node end = refl
+walk_to_leaf [] r (unfolds_to u l k) node end = absurd (true≢false (ap is_leaf (sym end)))
+walk_to_leaf (c ∷ q) r unfolds_end node end = absurd (true≢false (sym node))
+walk_to_leaf (false ∷ q) r (unfolds_to u l k) node end = ap more (walk_to_leaf q r l node end)
+walk_to_leaf (true ∷ q) r (unfolds_to u l k) node end = ap more (walk_to_leaf q r k node end)
 
-further_more : (d : ℕ) (o : Option ℕ) → further d (more o) ≡ further (d + 1) o
-further_more d None = refl
-further_more d (Some n) = let e : d + suc n ≡ d + 1 + n = omega arith in ap Some e
+-- to a node that branches
+pub walk_to_fork : {xs : List Vertex} {e : Edge} {t : Shape} (q : Bits) → Unfolds xs e t → is_leaf (shape_at t q) ≡ false → walk (out xs) (way e) q ≡ None
+walk_to_fork [] unfolds_end forks = absurd (true≢false forks)
+walk_to_fork [] (unfolds_to u l k) forks = refl
+walk_to_fork (c ∷ q) unfolds_end forks = absurd (true≢false forks)
+walk_to_fork (false ∷ q) (unfolds_to u l k) forks = ap more (walk_to_fork q l forks)
+walk_to_fork (true ∷ q) (unfolds_to u l k) forks = ap more (walk_to_fork q k forks)
 
--- the walk from the start is at this node after d bits
-pub record At (xs : List Vertex) (start : Edge) (row : Bits) (d : ℕ) (node : Edge) : Type 0 where
-  pub leads : led xs node ≡ node
-  pub rest : walk (out xs) (way start) row ≡ further d (walk (out xs) (way node) (drop d row))
+-- the walk of a whole row, by the spot that its bits lead to
+module _ (xs : List Vertex) (start : Edge) (row p : Bits) (width : ℕ) (s : Spot) (sound : ∥ Sound xs ∥₁) (front : p ≡ take width row) (long : length row ≤ width) (descends : Descends xs start p s) where
+  at_spot : (t : Shape) → Unfolds xs (led xs start) t → SpotOf xs t row s
+  at_spot t h = subst (λ q. SpotOf xs t q s) (front ∙ take_all width row long) (descends t h)
 
-module _ (xs : List Vertex) (start : Edge) (row : Bits) where
-  -- at the start
-  pub at_start : led xs start ≡ start → At xs start row 0 start
-  at_start leads = record { leads = leads; rest = begin (walk (out xs) (way start) row) }
+  pub walk_ends : s.edge ≡ End → Some s.depth ≡ walk (out xs) (way (led xs start)) row
+  walk_ends is = ∥∥₁_elim (each_unfolds xs start sound) (hlevel props) λ (t, h). sym (ends t h (at_spot t h))
     where
-      begin : (o : Option ℕ) → o ≡ further 0 o
-      begin None = refl
-      begin (Some n) = let e : n ≡ 0 + n = omega arith in ap Some e
+      ends : (t : Shape) → Unfolds xs (led xs start) t → SpotOf xs t row s → walk (out xs) (way (led xs start)) row ≡ Some s.depth
+      ends t h spot =
+          let at_leaf : shape_at t (take s.depth row) ≡ leaf = leaf_is _ (sym (end_leaf spot.unfolds) ∙ ap is_end is) in
+          ap (walk (out xs) (way (led xs start))) (sym (take-append-drop s.depth row)) ∙ walk_to_leaf (take s.depth row) (drop s.depth row) h spot.node at_leaf ∙ ap Some (length-take-le s.depth row spot.within)
 
-  -- one bit on
-  pub at_next : (d n : ℕ) (node e : Edge) (b : Bool) → At xs start row d node → node ≡ To n → d < length row → b ≡ get_or row d false → e ≡ next xs (led xs node) b → led xs e ≡ e → At xs start row (d + 1) e
-  at_next d n node e b here is less bit goes leads = record { leads = leads; rest = here.rest ∙ step ∙ further_more d (walk (out xs) (way e) (drop (d + 1) row)) }
+  pub walk_goes_on : (n : ℕ) → s.edge ≡ To n → None ≡ walk (out xs) (way (led xs start)) row
+  walk_goes_on n is = ∥∥₁_elim (each_unfolds xs start sound) (hlevel props) λ (t, h). sym (on t h (at_spot t h))
     where
-      to : e ≡ next xs (To n) (get_or row d false)
-      to = goes ∙ ap (λ f. next xs f b) (here.leads ∙ is) ∙ ap (next xs (To n)) bit
-
-      step : further d (walk (out xs) (way node) (drop d row)) ≡ further d (more (walk (out xs) (way e) (drop (d + 1) row)))
-      step = rw (is, drop_more row d false less, to) refl
-
-  -- at the end, or past the last bit; `first` is where the walk was to start
-  pub at_end : (d : ℕ) (node first : Edge) → At xs start row d node → node ≡ End → start ≡ first → Some d ≡ walk (out xs) (way first) row
-  at_end d node first here is from = rw (← from) (ap Some (sym (add-zero d)) ∙ sym (here.rest ∙ ap (λ f. further d (walk (out xs) (way f) (drop d row))) is))
-
-  pub at_last : (d n : ℕ) (node first : Edge) → At xs start row d node → node ≡ To n → length row ≤ d → start ≡ first → None ≡ walk (out xs) (way first) row
-  at_last d n node first here is past from = rw (← from) (sym (here.rest ∙ rw (is, drop_all d row past) refl))
+      on : (t : Shape) → Unfolds xs (led xs start) t → SpotOf xs t row s → walk (out xs) (way (led xs start)) row ≡ None
+      on t h spot =
+          let whole : take s.depth row ≡ row = elim spot.stops [ inl all ↦ take_all s.depth row (omega arith) | inr short ↦ absurd (true≢false (ap is_end (sym short.2 ∙ is))) ] in
+          ap (walk (out xs) (way (led xs start))) (sym whole) ∙ walk_to_fork (take s.depth row) h (vertex_forks n is spot.unfolds)

@@ -8,13 +8,13 @@ use Rattle.std.specs.Prelude.{◌≡◌, ℕ, suc, ◌<◌, true, List, length, 
 use Rattle.refusal.specs.declared.Refusal.{Refusal}
 use Rattle.refusal.specs.declared.Refusal.TheVariants.{VerticesFull}
 use Rattle.tree.specs.Tree.{Shape, fork}
-use Rattle.graph.specs.Slots.{at, led, Unfolds, in_use}
+use Rattle.graph.specs.Slots.{used, at, led, Unfolds, in_use}
 use Rattle.graph.specs.declared.edge.Edge.{Edge}
 use Rattle.graph.specs.declared.edge.Edge.TheVariants.{To}
 use Rattle.graph.specs.declared.vertex.Vertex.{Vertex}
 
 pub record Kept (xs ys : List Vertex) : Type 0 where
-  pub slots : (n : ℕ) → (at xs n).used ≡ true → at ys n ≡ at xs n
+  pub slots : (n : ℕ) → used (at xs n) ≡ true → at ys n ≡ at xs n
   pub shapes : (e : Edge) (t : Shape) → Unfolds xs e t → Unfolds ys e t
 
 abbrev pub Unheld : List Vertex → Shape → Type 0

@@ -13,7 +13,7 @@ use Rattle.bits.specs.Rows.{Bits}
 use Rattle.refusal.specs.declared.Refusal.{Refusal}
 use Rattle.refusal.specs.declared.Refusal.TheVariants.{VerticesFull}
 use Rattle.tree.specs.Tree.{Shape, shapes, alike, grown}
-use Rattle.graph.specs.Slots.{at, led, Unfolds, in_use}
+use Rattle.graph.specs.Slots.{used, at, led, Unfolds, in_use}
 use Rattle.graph.specs.Calls.{Unheld}
 use Rattle.graph.specs.View.{Holds}
 use Rattle.graph.specs.declared.edge.Edge.{Edge}
@@ -21,7 +21,7 @@ use Rattle.graph.specs.declared.edge.Edge.TheVariants.{To}
 use Rattle.graph.specs.declared.vertex.Vertex.{Vertex}
 
 abbrev pub New : List Vertex → List Vertex → List Shape → Type 0
-New xs ys ss = (n : ℕ) → (at ys n).used ≡ true → ((at xs n).used ≡ true) ⊎ ∥ ((s : Shape) × Mem s ss × Unfolds ys (To n) s) ∥₁
+New xs ys ss = (n : ℕ) → used (at ys n) ≡ true → (used (at xs n) ≡ true) ⊎ ∥ ((s : Shape) × Mem s ss × Unfolds ys (To n) s) ∥₁
 
 pub record Pathed (xs ys : List Vertex) (t : Shape) (e : Edge) : Type 0 where
   pub unfolds : Unfolds ys e t
@@ -46,7 +46,7 @@ pub record Overfull (ys : List Vertex) (ss : List Shape) (t : Shape) (why : Refu
   pub why_full : why ≡ VerticesFull
   pub many : 2048 < different alike (ss ++ shapes t)
   -- what was made on the way
-  pub only : (n : ℕ) → (at ys n).used ≡ true → ∥ ((s : Shape) × Mem s (ss ++ shapes t) × Unfolds ys (To n) s) ∥₁
+  pub only : (n : ℕ) → used (at ys n) ≡ true → ∥ ((s : Shape) × Mem s (ss ++ shapes t) × Unfolds ys (To n) s) ∥₁
 
 abbrev pub Grows : List Vertex → List Vertex → Edge → Bits → Result Edge Refusal → Type 0
 Grows xs ys start p r = (t : Shape) (ss : List Shape) → Unfolds xs (led xs start) t → Holds xs ss → MatchResult r (Grown ys ss (grown p t)) (Overfull ys ss (grown p t))

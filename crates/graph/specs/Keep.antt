@@ -11,7 +11,7 @@
 use Rattle.std.specs.Prelude.{◌≡◌, ℕ, suc, ◌≤◌, max, Bool, true, false, cond, ◌⊎◌, ◌↔◌, List, slice_index_or}
 use mathlib.Core.List.{Mem, Memᴰ}
 use Rattle.tree.specs.Tree.{Shape, leaf, fork, shapes}
-use Rattle.graph.specs.Slots.{blank, at, led, Unfolds}
+use Rattle.graph.specs.Slots.{used, zero_of, one_of, blank, at, led, Unfolds}
 use Rattle.graph.specs.declared.edge.Edge.{Edge}
 use Rattle.graph.specs.declared.edge.Edge.TheVariants.{End, To}
 use Rattle.graph.specs.declared.vertex.Vertex.{Vertex}
@@ -28,7 +28,7 @@ Marks ms End = Unit {0}
 Marks ms (To n) = marked ms n ≡ true
 
 abbrev pub Whole : List Vertex → List Bool → Type 0
-Whole xs ms = (n : ℕ) → marked ms n ≡ true → Marks ms (at xs n).zero × Marks ms (at xs n).one
+Whole xs ms = (n : ℕ) → marked ms n ≡ true → Marks ms (zero_of (at xs n)) × Marks ms (one_of (at xs n))
 
 pub record Reached (xs : List Vertex) (ms ns : List Bool) (e : Edge) (t : Shape) : Type 0 where
   pub whole : Whole xs ns
@@ -43,9 +43,8 @@ abbrev pub Swept : List Vertex → List Bool → List Vertex → Type 0
 Swept xs ms ys = (n : ℕ) → at ys n ≡ cond (marked ms n) (at xs n) blank
 
 pub record KeptOnly (xs ys : List Vertex) (t : Shape) : Type 0 where
-  pub slots : (n : ℕ) → ((at ys n).used ≡ true) ↔ (((at xs n).used ≡ true) × ∥ ((s : Shape) × Mem s (shapes t) × Unfolds xs (To n) s) ∥₁)
-  pub same : (n : ℕ) → (at ys n).used ≡ true → at ys n ≡ at xs n
-  pub free : (n : ℕ) → (at ys n).used ≡ false → at ys n ≡ blank
+  pub slots : (n : ℕ) → (used (at ys n) ≡ true) ↔ ((used (at xs n) ≡ true) × ∥ ((s : Shape) × Mem s (shapes t) × Unfolds xs (To n) s) ∥₁)
+  pub same : (n : ℕ) → used (at ys n) ≡ true → at ys n ≡ at xs n
   -- the tree and each branching shape of it are unfolded from the edges that they were unfolded from
   pub whole : (e : Edge) → Unfolds xs e t → Unfolds ys e t
   pub parts : (e : Edge) (s : Shape) → Mem s (shapes t) → Unfolds xs e s → Unfolds ys e s

@@ -1,5 +1,6 @@
 pub mod Slots
 pub mod Calls
+pub mod Descend
 pub mod Find
 pub mod Keep
 pub mod View

@@ -12,7 +12,7 @@ use Rattle.bits.specs.Lists.{different}
 use Rattle.tree.specs.Tree.{Routes, Shape, fork, alike, shapes, pushed}
 use Rattle.tree.specs.Graph.{Edge as Way, end, to, Graph, Closed, EndsAtLeaves, Reads, OneForEach}
 use Rattle.tree.specs.LeafLaws.{AtMost}
-use Rattle.graph.specs.Slots.{at, side_of, next, led, Unfolds, Sound, in_use}
+use Rattle.graph.specs.Slots.{used, blank, at, side_of, next, led, Unfolds, Sound, in_use}
 use Rattle.graph.specs.Calls.{Kept, Made}
 use Rattle.graph.specs.Keep.{KeptOnly}
 use Rattle.graph.specs.declared.edge.Edge.{Edge}
@@ -30,7 +30,7 @@ abbrev pub graph_of : List Vertex → Edge → Graph
 graph_of xs start = record { vertices = in_use xs; edge = out xs; start = way start }
 
 pub record Holds (xs : List Vertex) (ss : List Shape) : Type 0 where
-  pub only : (n : ℕ) → (at xs n).used ≡ true → ∥ ((s : Shape) × Mem s ss × Unfolds xs (To n) s) ∥₁
+  pub only : (n : ℕ) → used (at xs n) ≡ true → ∥ ((s : Shape) × Mem s ss × Unfolds xs (To n) s) ∥₁
   pub every : (s : Shape) → Mem s ss → ∥ ((n : ℕ) × Unfolds xs (To n) s) ∥₁
 
 pub record ViewLaws : Type 0 where
@@ -43,6 +43,8 @@ pub record ViewLaws : Type 0 where
   pub sides : (xs : List Vertex) (e : Edge) (a b : Shape) → Unfolds xs e (fork a b) → Unfolds xs (next xs e false) a × Unfolds xs (next xs e true) b
   -- the tree below an edge is in the table whole
   pub parts : (xs : List Vertex) (e : Edge) (t s : Shape) → Unfolds xs e t → Mem s (shapes t) → ∥ ((n : ℕ) × Unfolds xs (To n) s) ∥₁
+  -- a free slot is blank, so tables with the same vertices are equal
+  pub free : (xs : List Vertex) (n : ℕ) → used (at xs n) ≡ false → at xs n ≡ blank
   -- as many slots are in use as different shapes are held; a table with none in use holds none
   pub some_shapes : (xs : List Vertex) → ∥ Sound xs ∥₁ → ∥ ((ss : List Shape) × Holds xs ss) ∥₁
   pub number : (xs : List Vertex) (ss : List Shape) → ∥ Sound xs ∥₁ → Holds xs ss → length (in_use xs) ≡ different alike ss
@@ -63,4 +65,4 @@ pub record ForkLaws : Type 0 where
 -- xs at first, ys after some forks, zs at last
 pub record KeepLaws : Type 0 where
   pub holds : (ys zs : List Vertex) (start : Edge) (t : Shape) → Unfolds ys start t → KeptOnly ys zs t → Holds zs (shapes t)
-  pub back : (xs ys zs : List Vertex) (start : Edge) (t : Shape) → ∥ Sound xs ∥₁ → ∥ Sound ys ∥₁ → Unfolds xs start t → Holds xs (shapes t) → Kept xs ys → KeptOnly ys zs t → length zs ≡ length xs → zs ≡ xs
+  pub back : (xs ys zs : List Vertex) (start : Edge) (t : Shape) → ∥ Sound ys ∥₁ → Unfolds xs start t → Holds xs (shapes t) → Kept xs ys → KeptOnly ys zs t → length zs ≡ length xs → zs ≡ xs

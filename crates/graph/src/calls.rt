@@ -6,7 +6,7 @@ ghost use Rattle.graph.specs.View.{Holds};
 ghost use Rattle.graph.specs.Slots.{at, in_use, led};
 
 use super::edge::Edge;
-use super::table::Table;
+use super::table::{SLOTS, Table};
 use super::vertex::Vertex;
 
 impl Table {
@@ -15,7 +15,7 @@ impl Table {
         ensures holds { Holds result.slots [] }
     {
         Table {
-            slots: [Vertex::FREE; 2048],
+            slots: [Vertex::FREE; SLOTS],
             used: 0,
         }
     }
@@ -25,13 +25,14 @@ impl Table {
         ensures used { result ≡ length (in_use self.now.slots) }
         ensures shapes { (ss : List Shape) → Holds self.now.slots ss → result ≡ different alike ss }
     {
-        self.used as usize
+        self.used
     }
 
-    pub(super) fn in_use(&self, n: u16) -> bool
-        ensures { result ≡ (at self.now.slots n).used }
+    // The vertex in a slot; past the table, a free one.
+    pub(super) fn vertex(&self, n: u16) -> Vertex
+        ensures { result ≡ at self.now.slots n }
     {
-        n < 2048 && self.slots[n as usize].used
+        self.slots.get(n as usize).copied().unwrap_or(Vertex::FREE)
     }
 
     // The edge itself where it leads to a vertex in use, else the end.
@@ -39,7 +40,7 @@ impl Table {
         ensures { result ≡ led self.now.slots edge }
     {
         match edge {
-            Edge::To(n) if self.in_use(n) => edge,
+            Edge::To(n) if self.vertex(n).is_used() => edge,
             _ => Edge::End,
         }
     }

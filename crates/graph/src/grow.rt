@@ -22,11 +22,7 @@ impl Table {
         let below = self.follow(node, bit);
         let beside = self.follow(node, !bit);
         let below = self.grow_below(below, prefix, depth + 1)?;
-        if bit {
-            self.fork(beside, below)
-        } else {
-            self.fork(below, beside)
-        }
+        self.fork_beside(bit, below, beside)
     }
 
     // The edge to the start's tree in which every node above the prefix branches too.

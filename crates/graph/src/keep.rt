@@ -1,44 +1,48 @@
 // Frees the vertices that an edge does not reach.
-ghost use Rattle.std.specs.Prelude.{◌≡◌, length};
+ghost use Rattle.std.specs.Prelude.{◌≡◌, length, count_by};
 ghost use Rattle.graph.specs.Keep.{Marked, Swept, KeptFrom};
-ghost use Rattle.graph.specs.Slots.{in_use};
+ghost use Rattle.graph.specs.Slots.{used};
 
 use super::edge::Edge;
-use super::table::Table;
+use super::table::{SLOTS, Table};
 use super::vertex::Vertex;
 
-// Frees the slots that are not marked, and says how many stay in use.
-fn sweep(slots: &mut [Vertex; 2048], marks: &[bool; 2048]) -> u16
+// Frees the slots that are not marked. A proof follows slots that are lent through `enumerate`, and loses them through a `zip`.
+fn sweep(slots: &mut [Vertex; SLOTS], marks: &[bool; SLOTS])
     ensures swept { Swept slots.old marks.now slots.new }
-    ensures counted { result ≡ length (in_use slots.new) }
     ensures long { length slots.new ≡ 2048 }
 {
-    let mut used = 0;
-    for n in 0..2048usize {
+    for (n, slot) in slots.iter_mut().enumerate() {
         if !marks[n] {
-            slots[n].release();
-        } else if slots[n].used {
-            used += 1;
+            slot.release();
         }
     }
-    used
+}
+
+// How many slots are in use.
+fn count_used(slots: &[Vertex; SLOTS]) -> usize
+    ensures { result ≡ count_by used slots.now }
+{
+    slots.iter().filter(|vertex| vertex.is_used()).count()
 }
 
 impl Table {
     // Marks the slots that the edge reaches, where its shape is no deeper than the budget. A slot is marked after what lies below it,
     // so that the edges of a marked slot always lead to marked slots. Each slot is entered once, so it costs as much as there is to mark.
-    fn mark(&self, marks: &mut [bool; 2048], edge: Edge, budget: u16)
+    fn mark(&self, marks: &mut [bool; SLOTS], edge: Edge, budget: usize)
         ensures { Marked self.now.slots marks.old marks.new edge budget }
     {
         let Edge::To(n) = edge else {
             return;
         };
-        if n >= 2048 || budget == 0 || marks[n as usize] {
+        let Some(sides) = self.vertex(n).edges else {
+            return;
+        };
+        if budget == 0 || marks[n as usize] {
             return;
         }
-        let v = self.slots[n as usize];
-        self.mark(marks, v.zero, budget - 1);
-        self.mark(marks, v.one, budget - 1);
+        self.mark(marks, sides.zero, budget - 1);
+        self.mark(marks, sides.one, budget - 1);
         marks[n as usize] = true;
     }
 
@@ -47,9 +51,9 @@ impl Table {
         ensures { KeptFrom self.old.slots self.new.slots start }
     {
         let start = self.lead(start);
-        let mut marks = [false; 2048];
-        self.mark(&mut marks, start, 2048);
-        let used = sweep(&mut self.slots, &marks);
-        self.used = used;
+        let mut marks = [false; SLOTS];
+        self.mark(&mut marks, start, SLOTS);
+        sweep(&mut self.slots, &marks);
+        self.used = count_used(&self.slots);
     }
 }

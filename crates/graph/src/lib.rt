@@ -8,24 +8,22 @@ mod edge;
 mod fork;
 mod grow;
 mod keep;
+mod spot;
 mod table;
 mod vertex;
 mod walk;
 
 pub use edge::Edge;
-pub use table::Table;
-pub use vertex::Vertex;
+pub use spot::Spot;
+pub use table::{SLOTS, Table};
+pub use vertex::{Sides, Vertex};
 
 // The laws of a table as a graph and as a set of shapes, as contracts, so that a check asks for their proofs.
-pub fn view_laws_stand() -> u8
+pub fn view_laws_stand()
     ensures { ViewLaws }
-{
-    0
-}
+{}
 
-pub fn change_laws_stand() -> u8
+pub fn change_laws_stand()
     ensures forks { ForkLaws }
     ensures keeps { KeepLaws }
-{
-    0
-}
+{}

@@ -1,30 +1,28 @@
-// A vertex record: a slot of the table, with a 0-edge and a 1-edge while it is in use.
-ghost use Rattle.std.specs.Prelude.{◌≡◌, true, ◌&&◌, ◌↔◌};
-ghost use Rattle.graph.specs.Slots.{blank, linked, side_of};
+// A vertex record: a slot of the table, free or with the two edges of a vertex.
+ghost use Rattle.std.specs.Prelude.{◌≡◌, true, ◌↔◌, is_some};
+ghost use Rattle.graph.specs.Slots.{blank, linked, used, side_of};
 
 use super::edge::Edge;
 
-#[derive(Clone, Copy)]
-pub struct Vertex {
-    pub(crate) used: bool,
+// The 0-edge and the 1-edge of a vertex.
+#[derive(Clone, Copy, PartialEq, Eq, Debug)]
+pub struct Sides {
     pub(crate) zero: Edge,
     pub(crate) one: Edge,
 }
 
+#[derive(Clone, Copy, PartialEq, Eq, Debug)]
+pub struct Vertex {
+    pub(crate) edges: Option<Sides>,
+}
+
 impl Vertex {
-    // A free slot. Its edges lead to the end, so that tables with the same vertices are equal.
-    pub(crate) const FREE: Vertex = Vertex {
-        used: false,
-        zero: Edge::End,
-        one: Edge::End,
-    };
+    pub(crate) const FREE: Vertex = Vertex { edges: None };
 
     pub(crate) fn link(&mut self, zero: Edge, one: Edge)
         ensures { self.new ≡ linked zero one }
     {
-        self.used = true;
-        self.zero = zero;
-        self.one = one;
+        self.edges = Some(Sides { zero, one });
     }
 
     pub(crate) fn release(&mut self)
@@ -33,15 +31,26 @@ impl Vertex {
         *self = Vertex::FREE;
     }
 
-    pub(crate) fn joins(&self, zero: Edge, one: Edge) -> bool
-        ensures { (result ≡ true) ↔ ((self.now.zero ≡ zero) × (self.now.one ≡ one)) }
+    pub(crate) fn is_used(&self) -> bool
+        ensures { result ≡ used self.now }
     {
-        self.zero == zero && self.one == one
+        self.edges.is_some()
     }
 
+    pub(crate) fn joins(&self, zero: Edge, one: Edge) -> bool
+        ensures { (result ≡ true) ↔ (self.now ≡ linked zero one) }
+    {
+        self.edges == Some(Sides { zero, one })
+    }
+
+    // The 0-edge or the 1-edge; of a free slot, the end.
     pub(crate) fn side(&self, one: bool) -> Edge
         ensures { result ≡ side_of self.now one }
     {
-        if one { self.one } else { self.zero }
+        match self.edges {
+            Some(sides) if one => sides.one,
+            Some(sides) => sides.zero,
+            None => Edge::End,
+        }
     }
 }

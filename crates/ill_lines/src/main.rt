@@ -1,4 +1,4 @@
-// Answers text lines on the standard input by an engine for IPv4 addresses.
+// The IPv4 forwarder once more, on lines that are ill written: a program has one input here that its run is compared on.
 #![tactic(auto)]
 
 use net::Ipv4;

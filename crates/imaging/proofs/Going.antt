@@ -1,123 +1,116 @@
--- Following the bits of an edge, one after the other. Assumes nothing.
-use Rattle.std.proofs.Common.{◌≡◌, ℕ, ◌+◌, ◌-◌, ◌/◌, ◌%◌, ◌^◌, ◌<◌, ◌≤◌, Bool, true, false, eqb, List, [], ◌∷◌, ◌++◌, length, get_or, take, drop, Some, None, Option, sym, refl, ap, ◌∙◌, subst, ⊎_elim, arith}
-use mathlib.Core.Logic.{∥∥₁_map}
-use Rattle.std.proofs.lemmas.List.{take_more, take_all, length-take-le, take-append-drop}
-use Rattle.std.proofs.lemmas.Bool.{cases_Bool}
-use Rattle.bits.specs.Rows.{Bits, word}
-use Rattle.bits.proofs.Words.{length_word, bit_of_word}
-use Rattle.tree.specs.Graph.{Edge as Way, end, to, walk, more}
-use Rattle.graph.specs.Slots.{blank, at, side_of, led, next, Sound}
+-- Where the bits of an edge lead, by the spot that the table's way down ends at. Assumes nothing.
+use Rattle.std.proofs.Common.{◌≡◌, ℕ, ◌+◌, ◌-◌, ◌*◌, ◌%◌, ◌^◌, ◌<◌, ◌≤◌, true, false, List, [], ◌∷◌, length, take, drop, Some, None, Option, sym, refl, ap, ◌∙◌, subst, inl, inr, arith}
+use mathlib.Core.Logic.{∥∥₁_elim}
+use denote.Struct.Props.{props}
+use Rattle.std.proofs.lemmas.Bool.{true≢false}
+use Rattle.std.proofs.lemmas.List.{take_all, take-append-le, take-append-drop, length-take-le}
+use Rattle.std.proofs.lemmas.Nat.{shl-shr, shl_whole}
+use Rattle.bits.specs.Rows.{Bits, word, halves}
+use Rattle.bits.proofs.Words.{length_word, take_word}
+use Rattle.tree.specs.Tree.{Shape, leaf, has_node, shape_at}
+use Rattle.tree.specs.Graph.{to, walk}
+use Rattle.graph.specs.Slots.{is_end, at, used, led, Unfolds, unfolds_end, unfolds_to, Sound}
 use Rattle.graph.specs.View.{way, out}
+use Rattle.graph.specs.Descend.{SpotOf, Descends}
 use Rattle.graph.specs.declared.edge.Edge.{Edge}
 use Rattle.graph.specs.declared.edge.Edge.TheVariants.{End, To}
+use Rattle.graph.specs.declared.spot.Spot.{Spot}
 use Rattle.graph.specs.declared.vertex.Vertex.{Vertex}
-use Rattle.graph.proofs.Edges.{led_used, led_free, blank_out}
+use Rattle.graph.proofs.Edges.{led_used}
+use Rattle.graph.proofs.Descending.{vertex_forks}
+use Rattle.graph.proofs.Unfold.{unfolds_one, one_edge, each_unfolds}
+use Rattle.graph.proofs.Walking.{walk_to_leaf, walk_to_fork}
+use Rattle.image.specs.Image.{edges_each}
 use Rattle.image.specs.Picture.{down}
-use Rattle.image.proofs.Downs.{down_append, down_end, walk_append, walk_behind, walk_not_yet}
-use Rattle.imaging.specs.Vertices.{Left, Goes}
+use Rattle.image.proofs.Downs.{down_end}
+use Rattle.imaging.specs.Vertices.{Goes}
 
--- an edge that is followed by a table is followed in its graph
-pub followed_out : (xs : List Vertex) (n : ℕ) (e : Edge) (b : Bool) → ∥ Sound xs ∥₁ → e ≡ next xs (led xs (To n)) b → way e ≡ out xs n b
-followed_out xs n e b sound is = ⊎_elim used free (cases_Bool (at xs n).used)
-  where
-    used : (at xs n).used ≡ true → way e ≡ out xs n b
-    used u = ap way (is ∙ ap (λ f. next xs f b) (led_used xs n u))
+-- the bits of an edge, at the front of a word
+pub edge_bits : (s e : ℕ) → s ≤ 6 → e < edges_each s → take s (halves ((e * 2 ^ (64 - s)) % 2 ^ 64) 0) ≡ word s e
+edge_bits s e most less =
+    let size : s + (64 - s) ≡ 64 = omega arith in
+    take-append-le s (word 64 ((e * 2 ^ (64 - s)) % 2 ^ 64)) (word 64 0) (omega (arith, length_word 64 ((e * 2 ^ (64 - s)) % 2 ^ 64))) ∙
+    ap (λ n. take s (word 64 n)) (shl_whole e s (64 - s) 64 less (omega arith)) ∙ ap (λ w. take s (word w (e * 2 ^ (64 - s)))) (sym size) ∙
+    take_word s (64 - s) (e * 2 ^ (64 - s)) ∙ ap (word s) (shl-shr e (64 - s))
 
-    blank_side : (c : Bool) → side_of blank c ≡ End
-    blank_side true = refl
-    blank_side false = refl
+-- the bits of a node lead to the edge of its tree
+down_unfolds : {xs : List Vertex} {e : Edge} {t : Shape} (q : Bits) → Unfolds xs e t → has_node t q ≡ true → (f : Edge) × (down (out xs) (way e) q ≡ way f) × Unfolds xs f (shape_at t q)
+down_unfolds [] unfolds_end node = (End, refl, unfolds_end)
+down_unfolds [] (unfolds_to u l r) node = (To _, refl, unfolds_to u l r)
+down_unfolds (c ∷ q) unfolds_end node = absurd (true≢false (sym node))
+down_unfolds (false ∷ q) (unfolds_to u l r) node = down_unfolds q l node
+down_unfolds (true ∷ q) (unfolds_to u l r) node = down_unfolds q r node
 
-    free : (at xs n).used ≡ false → way e ≡ out xs n b
-    free u =
-        let empty : at xs n ≡ blank = blank_out (at xs n) (∥∥₁_map sound (λ s. s.free n u)) in
-        ap way (is ∙ ap (λ f. next xs f b) (led_free xs n u)) ∙ sym (ap (λ v. way (side_of v b)) empty ∙ ap way (blank_side b))
+-- a slot in use, and the spot that the table's way down from it by the edge's bits ends at
+module _ (xs : List Vertex) (sound : ∥ Sound xs ∥₁) (v : ℕ) (stands : used (at xs v) ≡ true) (s e : ℕ) (most : s ≤ 6) (less : e < edges_each s) where
+  start : led xs (To v) ≡ To v
+  start = led_used xs v stands
 
--- after k bits a walk has just ended, or goes on
-abbrev pub Status : Way → Option ℕ → ℕ → Type 0
-Status end o k = o ≡ Some k
-Status (to n) o k = o ≡ None
+  module _ (p : Bits) (spot : Spot) (path : p ≡ word s e) (descends : Descends xs (To v) p spot) where
+    long : length p ≡ s
+    long = ap length path ∙ length_word s e
 
-pub record Going (xs : List Vertex) (s v e : ℕ) (node : Edge) (left : ℕ) : Type 0 where
-  pub few : left ≤ s
-  pub leads : way node ≡ down (out xs) (to v) (take (s - left) (word s e))
-  pub walks : Status (way node) (walk (out xs) (to v) (take (s - left) (word s e))) (s - left)
+    -- the same of the slot as of what its edge is taken for
+    from_start : {o : Option ℕ} → walk (out xs) (way (led xs (To v))) p ≡ o → walk (out xs) (to v) p ≡ o
+    from_start h = ap (λ l. walk (out xs) (way l) p) (sym start) ∙ h
 
-down_none : (edge : ℕ → Bool → Way) (w : Way) → down edge w [] ≡ w
-down_none edge end = refl
-down_none edge (to v) = refl
+    within : spot.depth ≤ s
+    within = ∥∥₁_elim (each_unfolds xs (To v) sound) (hlevel props) λ (t, h). omega (arith, long, (descends t h).within)
 
-down_one : (edge : ℕ → Bool → Way) (n : ℕ) (b : Bool) → down edge (to n) (b ∷ []) ≡ edge n b
-down_one edge n b = down_none edge (edge n b)
+    ends : spot.edge ≡ End → walk (out xs) (to v) p ≡ Some spot.depth
+    ends is = ∥∥₁_elim (each_unfolds xs (To v) sound) (hlevel props) λ (t, h). from_start (at_leaf t h (descends t h))
+      where
+        at_leaf : (t : Shape) → Unfolds xs (led xs (To v)) t → SpotOf xs t p spot → walk (out xs) (way (led xs (To v))) p ≡ Some spot.depth
+        at_leaf t h here =
+            let flat : shape_at t (take spot.depth p) ≡ leaf = unfolds_one (subst (λ f. Unfolds xs f (shape_at t (take spot.depth p))) is here.unfolds) unfolds_end in
+            ap (walk (out xs) (way (led xs (To v)))) (sym (take-append-drop spot.depth p)) ∙ walk_to_leaf (take spot.depth p) (drop spot.depth p) h here.node flat ∙ ap Some (length-take-le spot.depth p here.within)
 
-module _ (xs : List Vertex) (s v e : ℕ) where
-  w : Bits
-  w = word s e
+    module _ (n : ℕ) (is : spot.edge ≡ To n) where
+      all : spot.depth ≡ s
+      all = ∥∥₁_elim (each_unfolds xs (To v) sound) (hlevel props) λ (t, h). elim (descends t h).stops [ inl whole ↦ whole ∙ long | inr short ↦ absurd (true≢false (ap is_end (sym short.2 ∙ is))) ]
 
-  pub going_start : Going xs s v e (To v) s
-  going_start =
-      let none : s - s ≡ 0 = omega arith in
-      record { few = omega arith; leads = rw none refl; walks = rw none refl }
+      whole : take spot.depth p ≡ p
+      whole = take_all spot.depth p (omega (arith, all, long))
 
-  status_next : (u : Way) (k n : ℕ) (b : Bool) → k < s → b ≡ get_or (word s e) k false → down (out xs) (to v) (take k (word s e)) ≡ to n → walk (out xs) (to v) (take k (word s e)) ≡ None → u ≡ out xs n b → Status u (walk (out xs) (to v) (take (k + 1) (word s e))) (k + 1)
-  status_next u k n b less bit leads none is = go u is
-    where
-      more_bits : take (k + 1) (word s e) ≡ take k (word s e) ++ (b ∷ [])
-      more_bits = take_more (word s e) k false (omega (arith, length_word s e)) ∙ ap (λ c. take k (word s e) ++ (c ∷ [])) (sym bit)
+      goes_on : walk (out xs) (to v) p ≡ None
+      goes_on = ∥∥₁_elim (each_unfolds xs (To v) sound) (hlevel props) λ (t, h). from_start
+          (ap (walk (out xs) (way (led xs (To v)))) (sym whole) ∙ walk_to_fork (take spot.depth p) h (vertex_forks n is (descends t h).unfolds))
 
-      long : length (take k (word s e)) ≡ k
-      long = length-take-le k (word s e) (omega (arith, length_word s e))
+      leads_on : to n ≡ down (out xs) (to v) p
+      leads_on = ∥∥₁_elim (each_unfolds xs (To v) sound) (hlevel props) λ (t, h). on t h (descends t h)
+        where
+          on : (t : Shape) → Unfolds xs (led xs (To v)) t → SpotOf xs t p spot → to n ≡ down (out xs) (to v) p
+          on t h here =
+              let (f, leads, unfolds) = down_unfolds (take spot.depth p) h here.node in
+              let same : f ≡ spot.edge = one_edge xs f spot.edge _ sound unfolds here.unfolds in
+              sym (ap (down (out xs) (to v)) (sym whole) ∙ ap (λ l. down (out xs) (way l) (take spot.depth p)) (sym start) ∙ leads ∙ ap way (same ∙ is))
 
-      go : (u : Way) → u ≡ out xs n b → Status u (walk (out xs) (to v) (take (k + 1) (word s e))) (k + 1)
-      go end is =
-          let one : walk (out xs) (down (out xs) (to v) (take k (word s e))) (b ∷ []) ≡ Some 1 = ap (λ d. walk (out xs) d (b ∷ [])) leads ∙ ap (λ d. more (walk (out xs) d [])) (sym is) in
-          ap (walk (out xs) (to v)) more_bits ∙ walk_behind (out xs) (to v) (take k (word s e)) (b ∷ []) 1 none one ∙ ap (λ m. Some (m + 1)) long
-      go (to m) is =
-          let on : walk (out xs) (down (out xs) (to v) (take k (word s e))) (b ∷ []) ≡ None = ap (λ d. walk (out xs) d (b ∷ [])) leads ∙ ap (λ d. more (walk (out xs) d [])) (sym is) in
-          ap (walk (out xs) (to v)) more_bits ∙ walk_not_yet (out xs) (to v) (take k (word s e)) (b ∷ []) none on
+    goes_down : Goes xs s v e spot.edge (s - spot.depth)
+    goes_down = go spot.edge refl
+      where
+        go : (f : Edge) → spot.edge ≡ f → Goes xs s v e spot.edge (s - spot.depth)
+        go End is =
+            let met : walk (out xs) (to v) (word s e) ≡ Some spot.depth = subst (λ q. walk (out xs) (to v) q ≡ Some spot.depth) path (ends is) in
+            record {
+              leads = ap way is ∙ sym (down_end (out xs) (to v) (word s e) spot.depth met);
+              left = rw met (omega (arith, within));
+              few = omega arith;
+            }
+        go (To n) is =
+            let on : walk (out xs) (to v) (word s e) ≡ None = subst (λ q. walk (out xs) (to v) q ≡ None) path (goes_on n is) in
+            record {
+              leads = ap way is ∙ leads_on n is ∙ ap (down (out xs) (to v)) path;
+              left = rw on (omega (arith, all n is));
+              few = omega arith;
+            }
 
-  leads_next : (u : Way) (k n : ℕ) (b : Bool) → k < s → b ≡ get_or (word s e) k false → down (out xs) (to v) (take k (word s e)) ≡ to n → u ≡ out xs n b → u ≡ down (out xs) (to v) (take (k + 1) (word s e))
-  leads_next u k n b less bit leads is =
-      let more_bits : take (k + 1) (word s e) ≡ take k (word s e) ++ (b ∷ []) = take_more (word s e) k false (omega (arith, length_word s e)) ∙ ap (λ c. take k (word s e) ++ (c ∷ [])) (sym bit) in
-      is ∙ sym (ap (down (out xs) (to v)) more_bits ∙ down_append (out xs) (to v) (take k (word s e)) (b ∷ []) ∙ ap (λ d. down (out xs) d (b ∷ [])) leads ∙ down_one (out xs) n b)
+  -- as the code has it, which takes the bits from the front of a word
+  module _ {bits : ℕ} (is : bits ≡ s) {p : Bits} {spot : Spot} (front : p ≡ take bits (halves ((e * 2 ^ (64 - bits)) % 2 ^ 64) 0)) (descends : Descends xs (To v) p spot) where
+    path : p ≡ word s e
+    path = front ∙ ap (λ b. take b (halves ((e * 2 ^ (64 - b)) % 2 ^ 64) 0)) is ∙ edge_bits s e most less
 
-  -- one bit on
-  pub going_on : (n left : ℕ) (node follow : Edge) (b : Bool) → ∥ Sound xs ∥₁ → 0 < left → node ≡ To n → b ≡ eqb (e / 2 ^ (left - 1) % 2) 1 → follow ≡ next xs (led xs node) b → Going xs s v e node left → Going xs s v e follow (left - 1)
-  going_on n left node follow b sound some is bit goes h =
-      let k : ℕ = s - left in
-      let less : s - left < s = omega (arith, h.few) in
-      let here : s - 1 - (s - left) ≡ left - 1 = omega (arith, h.few) in
-      let there : s - (left - 1) ≡ (s - left) + 1 = omega (arith, h.few) in
-      let bit_is : b ≡ get_or (word s e) (s - left) false = bit ∙ sym (bit_of_word s e (s - left) less ∙ ap (λ j. eqb (e / 2 ^ j % 2) 1) here) in
-      let at_n : way node ≡ to n = ap way is in
-      let out_is : way follow ≡ out xs n b = followed_out xs n follow b sound (goes ∙ ap (λ f. next xs (led xs f) b) is) in
-      let leads : down (out xs) (to v) (take (s - left) (word s e)) ≡ to n = sym h.leads ∙ at_n in
-      let none : walk (out xs) (to v) (take (s - left) (word s e)) ≡ None = subst (λ u. Status u (walk (out xs) (to v) (take (s - left) (word s e))) (s - left)) at_n h.walks in
-      record {
-        few = omega (arith, h.few);
-        leads = rw there (leads_next (way follow) (s - left) n b less bit_is leads out_is);
-        walks = rw there (status_next (way follow) (s - left) n b less bit_is leads none out_is);
-      }
+    pub few_taken : spot.depth ≤ bits
+    few_taken = omega (arith, is, within p spot path descends)
 
-  -- at the end, or past the last bit
-  pub going_ended : (left : ℕ) (node : Edge) → node ≡ End → Going xs s v e node left → Goes xs s v e node left
-  going_ended left node is h =
-      let ends : walk (out xs) (to v) (take (s - left) (word s e)) ≡ Some (s - left) = subst (λ u. Status u (walk (out xs) (to v) (take (s - left) (word s e))) (s - left)) (ap way is) h.walks in
-      let whole : walk (out xs) (to v) (word s e) ≡ Some (s - left) = rw take-append-drop at (walk_append (out xs) (to v) (take (s - left) (word s e)) (drop (s - left) (word s e)) (s - left) ends) in
-      record {
-        leads = ap way is ∙ sym (down_end (out xs) (to v) (word s e) (s - left) whole);
-        left = rw whole (omega (arith, h.few));
-        few = h.few;
-      }
-
-  pub going_all : (left : ℕ) (node : Edge) → left ≤ 0 → Going xs s v e node left → Goes xs s v e node left
-  going_all left node none h =
-      let all : take (s - left) (word s e) ≡ word s e = take_all (s - left) (word s e) (omega (arith, length_word s e)) in
-      record {
-        leads = h.leads ∙ ap (down (out xs) (to v)) all;
-        left = go (way node) (walk (out xs) (to v) (word s e)) (rw all at h.walks);
-        few = h.few;
-      }
-    where
-      go : (u : Way) (o : Option ℕ) → Status u o (s - left) → Left o s left
-      go end o is = rw is (omega (arith, h.few))
-      go (to m) o is = rw is (omega arith)
+    pub goes : Goes xs s v e spot.edge (bits - spot.depth)
+    goes = subst (λ b. Goes xs s v e spot.edge (b - spot.depth)) (sym is) (goes_down p spot path descends)

@@ -1,6 +1,6 @@
 mod Going
 mod Marking
 mod Counting
-mod Drawing
+mod Filling
 mod Picturing
 mod Showing

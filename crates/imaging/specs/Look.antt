@@ -6,20 +6,19 @@ use Rattle.bits.specs.Rows.{Bits}
 use Rattle.refusal.specs.declared.Refusal.{Refusal}
 use Rattle.tree.specs.Tree.{Routes}
 use Rattle.tree.specs.Graph.{LeafAt}
-use Rattle.tree.specs.Ledger.{Given, lookup}
+use Rattle.tree.specs.Ledger.{Given, lookup, looked}
 use Rattle.graph.specs.Slots.{in_use}
-use Rattle.graph.specs.declared.edge.Edge.{Edge}
-use Rattle.graph.specs.declared.vertex.Vertex.{Vertex}
 use Rattle.store.specs.Content.{Told}
-use Rattle.engine.specs.Calls.{Answers, hop_answer}
+use Rattle.engine.specs.State.{State}
+use Rattle.engine.specs.Calls.{Answers}
 use Rattle.reader.specs.Rows.{rows_refusal}
 use Rattle.imaging.specs.Make.{Made}
 
 pub record Found (g : Given) (rs : Routes) (a : Bits) (x : ℕ × Told) : Type 0 where
   pub leaf : LeafAt rs a x.0
-  pub hop : Answers g rs (lookup a) (hop_answer x.1)
+  pub hop : Answers g rs (lookup a) (looked x.1)
 
-abbrev pub Looked : Given → Routes → List Vertex → Edge → Bits → ℕ → List ℕ → List ℕ → List ℕ → List ℕ → Result (ℕ × Told) Refusal → Type 0
-Looked g rs xs start a s es fs ms ns r = MatchResult r
-    (λ x. Made xs start s es fs ms ns (length (in_use xs)) × Found g rs a x)
-    (λ e. (rows_refusal es ms s (length (in_use xs)) ≡ Some e) × (fs ≡ es) × (ns ≡ ms))
+abbrev pub Looked : Given → Routes → State → Bits → ℕ → List ℕ → List ℕ → List ℕ → List ℕ → Result (ℕ × Told) Refusal → Type 0
+Looked g rs e a s es fs ms ns r = MatchResult r
+    (λ x. Made e s es fs ms ns (length (in_use e.slots)) × Found g rs a x)
+    (λ why. (rows_refusal es ms s (length (in_use e.slots)) ≡ Some why) × (fs ≡ es) × (ns ≡ ms))

@@ -2,6 +2,7 @@
 #![tactic(auto)]
 
 mod draw;
+mod drawing;
 mod look;
 mod making;
 mod number;

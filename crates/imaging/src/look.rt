@@ -1,7 +1,7 @@
 // Looking an address up by an image.
-ghost use Rattle.std.specs.Prelude.{◌≡◌};
 ghost use Rattle.tree.specs.Ledger.{Given};
 ghost use Rattle.tree.specs.Tree.{Routes};
+ghost use Rattle.engine.specs.Seen.{state};
 ghost use Rattle.engine.specs.Serves.{Serves};
 ghost use Rattle.imaging.specs.Look.{Looked};
 
@@ -20,8 +20,8 @@ pub fn lookup_by_image<F: Family, R: Store, L: Store>(
     marks: &mut [u64],
     address: &F,
 ) -> Result<(usize, Option<u16>), Refusal>
-    ensures { (g : Given) (rs : Routes) → g.width ≡ F.Family.wide → Serves g R.Store.kept R.Store.content L.Store.kept L.Store.content rs engine.now →
-        Looked g rs engine.now.table.slots engine.now.start (F.Family.row address.now) stride edges.old edges.new marks.old marks.new result }
+    ensures { (g : Given) (rs : Routes) → Serves g rs (state engine.now) →
+        Looked g rs (state engine.now) (F.Family.row address.now) stride edges.old edges.new marks.old marks.new result }
 {
     let vertices = make(engine, stride, edges, marks)?;
     let mut reader = Reader::empty();

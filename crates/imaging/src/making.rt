@@ -1,13 +1,14 @@
 // Making an image.
-ghost use Rattle.std.specs.Prelude.{◌≡◌, ◌*◌, ◌≤◌, length, IfOk};
+ghost use Rattle.std.specs.Prelude.{◌*◌, ◌≤◌, length, IfOk};
 ghost use Rattle.graph.specs.Slots.{in_use};
 ghost use Rattle.image.specs.Image.{edges_each};
 ghost use Rattle.tree.specs.Ledger.{Given};
 ghost use Rattle.tree.specs.Tree.{Routes};
+ghost use Rattle.engine.specs.Seen.{state};
 ghost use Rattle.engine.specs.Serves.{Serves};
 ghost use Rattle.imaging.specs.Make.{Images, Makes, Shows, picture};
 
-use crate::draw::{draw, marks as marks_of};
+use crate::drawing::Drawing;
 use crate::numbering::Numbering;
 use engine::Engine;
 use graph::{Edge, Table};
@@ -22,18 +23,18 @@ fn draw_all(table: &Table, start: Edge, stride: Stride, edges: &mut [u16], marks
     requires marks { length (in_use table.now.slots) ≤ length marks.old }
     ensures { Images table.now.slots start stride.bits edges.old edges.new marks.old marks.new (length (in_use table.now.slots)) }
 {
-    let numbering = Numbering::of(table, start);
-    for x in 0..numbering.count as u64 {
-        let slot = numbering.slot(x);
-        draw(
+    let numbering = &Numbering::of(table, start);
+    let each = stride.edges() as usize;
+    // A proof knows only the length of a row whose chunks were lent for writing, so each vertex's part is taken by its place.
+    for (x, slot) in numbering.slots.iter().enumerate() {
+        let vertex = Drawing {
             table,
-            &numbering,
-            slot,
+            slot: *slot,
             stride,
-            (x * stride.edges()) as usize,
-            edges,
-        );
-        marks[x as usize] = marks_of(table, slot, stride);
+        };
+        let place = x * each;
+        vertex.draw(numbering, &mut edges[place..place + each]);
+        marks[x] = vertex.marks();
     }
 }
 
@@ -45,9 +46,9 @@ pub fn make<F: Family, R: Store, L: Store>(
     edges: &mut [u16],
     marks: &mut [u64],
 ) -> Result<u64, Refusal>
-    ensures makes { Makes engine.now.table.slots engine.now.start stride edges.old edges.new marks.old marks.new result }
-    ensures shows { IfOk result (λ V. (g : Given) (rs : Routes) → g.width ≡ F.Family.wide → Serves g R.Store.kept R.Store.content L.Store.kept L.Store.content rs engine.now →
-        Shows F.Family.wide rs engine.now.table.slots engine.now.start (picture edges.new marks.new stride V)) }
+    ensures makes { Makes (state engine.now) stride edges.old edges.new marks.old marks.new result }
+    ensures shows { IfOk result (λ V. (g : Given) (rs : Routes) → Serves g rs (state engine.now) →
+        Shows rs (state engine.now) (picture edges.new marks.new stride V)) }
 {
     let table = engine.table();
     let vertices = table.count() as u64;

@@ -1,11 +1,12 @@
-// The slots of a table by number, and the numbers of the slots; 0 is no number.
+// The slots of a table by number, from 1 on, and the numbers of the slots; 0, the image's number of the end, is no slot's.
 ghost use Rattle.std.specs.Prelude.{◌≡◌, length};
+
+use arrayvec::ArrayVec;
+use graph::SLOTS;
 
 #[derive(Drop)]
 pub(crate) struct Numbering {
-    pub(crate) slots: [u16; 2048],
-    pub(crate) numbers: [u16; 2048],
-    pub(crate) count: u16,
-    ghost many: { length slots ≡ 2048 },
+    pub(crate) slots: ArrayVec<u16, SLOTS>,
+    pub(crate) numbers: [u16; SLOTS],
     ghost each: { length numbers ≡ 2048 },
 }

@@ -1,33 +1,47 @@
 -- Buckets, strays and the choice among four buckets. Assumes nothing.
-use Rattle.std.proofs.Common.{◌≡◌, ℕ, zero, suc, ◌+◌, ◌*◌, ◌/◌, ◌<◌, ◌≤◌, true, false, cond, not, ltb, ◌⊎◌, List, [], ◌∷◌, length, set, replicate, Some, None, Option, sym, refl, subst, inl, inr, add-zero, add-one, arith}
+use Rattle.std.proofs.Common.{◌≡◌, ℕ, zero, suc, ◌+◌, ◌-◌, ◌*◌, ◌/◌, ◌<◌, ◌≤◌, true, false, cond, not, ltb, ◌⊎◌, List, [], ◌∷◌, length, drop, set, replicate, Some, None, sym, refl, ap, ◌∙◌, inl, inr, add-zero, add-one, arith}
 use Rattle.std.proofs.lemmas.Bool.{cases_Bool, cases_eq, cases_lt, true≢false, eqb-true, lt-ltb, le-ltb, eq-eqb, or_cases}
 use Rattle.std.proofs.lemmas.Bool.Decides.{nat_tests}
-use Rattle.bits.specs.Rows.{Bits}
+use Rattle.std.proofs.lemmas.List.{get_or-drop, get_or-take, length-take}
+use Rattle.std.proofs.lemmas.List.Quantifiers.{position-Some}
+use Rattle.std.proofs.lemmas.List.Sums.{count_by-le-length, sum_by-cons}
+use Rattle.std.specs.List.{list_any, range_with_len}
+use Rattle.std.specs.Prelude.{◌==◌}
 use Rattle.bits.proofs.Tests.{same_is}
 use Rattle.net.specs.Prefix.{row_of}
 use Rattle.net.specs.declared.prefix.Prefix.{Prefix}
 use Rattle.net.proofs.Prefixes.{one_for_a_row}
-use Rattle.store.specs.Slots.{at, holds, taken, spot}
-use Rattle.store.specs.declared.slot.Slot.{Slot}
-use Rattle.store.specs.declared.slot.Slot.TheVariants.{Free, Taken}
-use Rattle.store.proofs.Spots.{spot_none, spot_holds}
-use Rattle.layer.specs.Buckets.{fill, near, astray, strays_from, strays_in, earliest_least, EarliestLeast, ChoiceLaw, choice, Found}
+use Rattle.store.specs.Slots.{Slot, at, holds, taken, spot, used}
+use Rattle.store.specs.declared.slot.Entry.{Entry}
+use Rattle.store.proofs.Spots.{spot_none}
+use Rattle.layer.specs.Buckets.{bucket, fill, near, astray, strays_from, strays_in, earliest_least, EarliestLeast, ChoiceLaw, choice}
+
+-- a bucket's slots are those of the layer from 3 × b on
+pub bucket_at : (xs : List Slot) (b k : ℕ) → k < 3 → at (bucket xs b) k ≡ at xs (3 * b + k)
+bucket_at xs b k l = get_or-take (3 * b + 3 - 3 * b) (drop (3 * b) xs) k None (omega arith) ∙ get_or-drop (3 * b) xs k None
+
+-- slots of which one is free are not all taken
+used_less : (ys : List Slot) (n k : ℕ) → length ys ≤ n → k < n → taken (at ys k) ≡ false → used ys < n
+used_less [] n k l m f = omega arith
+used_less (s ∷ ys) zero k l m f = absurd (omega arith)
+used_less (s ∷ ys) (suc n) zero l m f =
+    let most = count_by-le-length taken ys in
+    let more = sum_by-cons (λ s. cond (taken s) 1 0) s ys in
+    let none : ◌≡◌ {A = ℕ} (cond (taken s) 1 0) 0 = rw f refl in
+    omega arith
+used_less (s ∷ ys) (suc n) (suc k) l m f =
+    let ih = used_less ys n k (omega arith) (omega arith) f in
+    let more = sum_by-cons (λ s. cond (taken s) 1 0) s ys in
+    let one : cond (taken s) 1 0 ≤ 1 = grind arith in
+    omega arith
 
 -- a free slot of a bucket leaves it not full
 pub fill_free : (xs : List Slot) (i b : ℕ) → i / 3 ≡ b → taken (at xs i) ≡ false → fill xs b < 3
 fill_free xs i b e f =
-    elim (third i b e) [
-      | inl z ↦ (let t : taken (at xs (3 * b)) ≡ false = subst (λ n. taken (at xs n) ≡ false) z f in grind arith)
-      | inr (inl z) ↦ (let t : taken (at xs (3 * b + 1)) ≡ false = subst (λ n. taken (at xs n) ≡ false) z f in grind arith)
-      | inr (inr z) ↦ (let t : taken (at xs (3 * b + 2)) ≡ false = subst (λ n. taken (at xs n) ≡ false) z f in grind arith)
-    ]
-  where
-    third : (i b : ℕ) → i / 3 ≡ b → (i ≡ 3 * b) ⊎ ((i ≡ 3 * b + 1) ⊎ (i ≡ 3 * b + 2))
-    third i b e =
-        elim (cases_eq i (3 * b)) [
-          | inl z ↦ inl z
-          | inr n ↦ elim (cases_eq i (3 * b + 1)) [ inl z ↦ inr (inl z) | inr m ↦ inr (inr (omega arith)) ]
-        ]
+    let k : i - 3 * b < 3 = omega arith in
+    let same_place : 3 * b + (i - 3 * b) ≡ i = omega arith in
+    let read = bucket_at xs b (i - 3 * b) k in
+    used_less (bucket xs b) 3 (i - 3 * b) (simp length-take (omega arith)) k (ap taken (read ∙ ap (at xs) same_place) ∙ f)
 
 -- the law of the choice
 pub earliest_least_is : ChoiceLaw
@@ -72,6 +86,10 @@ module _ (f : Prefix → ℕ → ℕ) where
   near_of p b (suc (suc (suc zero))) l e = let t = eq-eqb _ _ e in grind arith
   near_of p b (suc (suc (suc (suc j)))) l e = absurd (omega arith)
 
+  -- the four tries, one after another
+  pub any_near : (p : Prefix) (b : ℕ) → list_any (λ j. f p j == b) (range_with_len 0 4) ≡ near f p b
+  any_near p b = grind arith
+
   -- the choice is one of the four, and no fuller than any of them
   pub choice_near : (xs : List Slot) (p : Prefix) → near f p (choice f xs p) ≡ true
   unfolding choice
@@ -85,10 +103,10 @@ module _ (f : Prefix → ℕ → ℕ) where
       rw (← n.1.1) l
 
   -- where the choice is full, a free slot is in none of the four
-  pub free_astray : (xs : List Slot) (p : Prefix) (h i : ℕ) → fill xs (choice f xs p) ≡ 3 → taken (at xs i) ≡ false → astray f i (Taken p h) ≡ true
-  free_astray xs p h i full free =
-      elim (cases_Bool (near f p (i / 3))) [
-        | inl t ↦ absurd (omega (arith, choice_least xs p (i / 3) t, fill_free xs i (i / 3) refl free))
+  pub free_astray : (xs : List Slot) (s : Entry) (i : ℕ) → fill xs (choice f xs s.prefix) ≡ 3 → taken (at xs i) ≡ false → astray f i (Some s) ≡ true
+  free_astray xs s i full free =
+      elim (cases_Bool (near f s.prefix (i / 3))) [
+        | inl t ↦ absurd (omega (arith, choice_least xs s.prefix (i / 3) t, fill_free xs i (i / 3) refl free))
         | inr n ↦ grind arith
       ]
 
@@ -135,8 +153,16 @@ module _ (f : Prefix → ℕ → ℕ) where
 
   -- an entry's stray test is that of the prefix whose row it has
   pub astray_held : (p : Prefix) (i : ℕ) (s : Slot) → holds (row_of p) s ≡ true → astray f i s ≡ not (near f p (i / 3))
-  astray_held p i Free h = absurd (true≢false (sym h))
-  astray_held p i (Taken r k) h = let e = one_for_a_row p r (same_is (row_of p) (row_of r) h) in rw e refl
+  astray_held p i None h = absurd (true≢false (sym h))
+  astray_held p i (Some s) h = let e = one_for_a_row p s.prefix (same_is (row_of p) (row_of s.prefix) h) in rw e refl
+
+  -- an entry astray is counted
+  pub strays_some : (xs : List Slot) (p : Prefix) (i : ℕ) → spot xs (row_of p) ≡ Some i → cond (near f p (i / 3)) 0 1 ≤ strays_in f xs
+  strays_some xs p i e =
+      let h = position-Some (holds (row_of p)) xs i None e in
+      let counts = strays_set xs i None h.0 in
+      let here = astray_held p i (at xs i) h.1 in
+      grind arith
 
   -- a layer with no strays has a prefix in one of its four buckets or nowhere
   pub found_near : (xs : List Slot) (p : Prefix) → strays_in f xs ≡ 0 → ((i : ℕ) → near f p (i / 3) ≡ true → holds (row_of p) (at xs i) ≡ false) → spot xs (row_of p) ≡ None
@@ -147,18 +173,9 @@ module _ (f : Prefix → ℕ → ℕ) where
         | inr n ↦ n
       ]
 
-pub free_at : (n i : ℕ) → at (replicate n Free) i ≡ Free
-free_at zero i = refl
-free_at (suc n) zero = refl
-free_at (suc n) (suc i) = free_at n i
-
-pub strays_none : (f : Prefix → ℕ → ℕ) (k n : ℕ) → strays_from f k (replicate n Free) ≡ 0
+pub strays_none : (f : Prefix → ℕ → ℕ) (k n : ℕ) → strays_from f k (replicate n None) ≡ 0
 strays_none f k zero = refl
 strays_none f k (suc n) = let ih = strays_none f (suc k) n in omega arith
-
-pub found_spot : (xs : List Slot) (q : Bits) (r : Option ℕ) → length xs ≡ 768 → r ≡ spot xs q → Found xs q r
-found_spot xs q None long e = tt
-found_spot xs q (Some i) long e = let h = spot_holds xs q i (sym e) in (omega (arith, h.1, long), h.0)
 
 pub choice_first : (g : ℕ → ℕ) → earliest_least g 1 ≡ 0
 unfolding earliest_least

@@ -1,3 +1,4 @@
 pub mod Buckets
 pub mod Writes
 pub mod Puts
+pub mod Ways

@@ -1,54 +1,15 @@
 -- What a write to a layer's own slots, or to the store below, does to the layer's content and places. Assumes nothing.
-use Rattle.std.proofs.Common.{◌≡◌, ℕ, ◌/◌, ◌≤◌, Bool, true, false, cond, ◌||◌, List, [], ◌∷◌, ◌++◌, set, Some, None, Option, sym, refl, ap, ◌∙◌, inl, inr, arith}
-use mathlib.Core.Logic.{∥∥₁_map}
-use Rattle.std.proofs.lemmas.List.{length-append}
+use Rattle.std.proofs.Common.{◌≡◌, ℕ, ◌/◌, Bool, true, false, cond, List, set, Some, None, Option, sym, refl, ap, ◌∙◌, inl, inr, arith}
 use Rattle.std.proofs.lemmas.Bool.{cases_Bool, true≢false}
-use Rattle.bits.specs.Lists.{any}
 use Rattle.bits.specs.Rows.{Bits, same}
-use Rattle.bits.proofs.Fronts.{same_self}
-use Rattle.bits.proofs.Sets.{NoRepeats}
 use Rattle.bits.proofs.Tests.{same_is}
-use Rattle.net.specs.declared.prefix.Prefix.{Prefix}
-use Rattle.store.specs.Content.{Told, absent, present, size, Content, Listed, Counted, Wrote, Sound}
-use Rattle.store.specs.Slots.{told_by, taken, spot, told_at, told_in, Apart}
-use Rattle.store.specs.declared.slot.Slot.{Slot}
+use Rattle.store.specs.Content.{Told, absent, present, size, Content, Wrote}
+use Rattle.store.specs.Slots.{Slot, told_by, taken, spot, told_at, told_in, Apart}
 use Rattle.store.proofs.Spots.{Of, Site, written}
-use Rattle.store.proofs.Numbers.{rows, rows_listed}
 use Rattle.layer.specs.declared.place.Place.TheVariants.{Bucket}
 use Rattle.layer.specs.declared.place.Place.TheVariants as place
-use Rattle.layer.specs.Layers.{joined, layer_content, Layered}
+use Rattle.layer.specs.Layers.{joined, layer_content}
 use Rattle.layer.specs.Places.{place_by, Placed}
-
--- lists with no row in both
-pub any_both : (t : Bits → Bool) (xs ys : List Bits) → any t (xs ++ ys) ≡ (any t xs || any t ys)
-any_both t [] ys = refl
-any_both t (x ∷ xs) ys = let ih = any_both t xs ys in grind arith
-
-no_repeats_both : (xs ys : List Bits) → NoRepeats same xs → NoRepeats same ys → ((q : Bits) → any (same q) xs ≡ true → any (same q) ys ≡ false) → NoRepeats same (xs ++ ys)
-no_repeats_both [] ys a b c = b
-no_repeats_both (x ∷ xs) ys a b c =
-    let here = c x (let s = same_self x in grind arith) in
-    let both = any_both (same x) xs ys in
-    let new = a.0 in
-    (grind arith, no_repeats_both xs ys a.1 b (λ q h. c q (grind arith)))
-
--- a layer's number held is the number of its rows
-pub joined_counted : (xs : List Slot) (c : Content) → Apart xs → ((q : Bits) → present (told_in xs q) ≡ true → c.map q ≡ absent) → Counted c.map c.held → Counted (layer_content xs c).map (layer_content xs c).held
-joined_counted xs c apart separate counted = ∥∥₁_map counted λ (ys, l). (rows xs ++ ys, both ys l)
-  where
-    both : (ys : List Bits) → Listed c.map c.held ys → Listed (layer_content xs c).map (layer_content xs c).held (rows xs ++ ys)
-    both ys l =
-        let own = rows_listed xs apart in
-        record {
-          once = no_repeats_both (rows xs) ys own.once l.once (λ q h. l.all q ∙ ap present (separate q (sym (own.all q) ∙ h)));
-          all = λ q. (let a = own.all q in let b = l.all q in let s = any_both (same q) (rows xs) ys in grind arith);
-          long = omega (arith, length-append (rows xs) ys, own.long, l.long);
-        }
-
-module _ (f : Prefix → ℕ → ℕ) (n : ℕ) (k : Type 0) (xs : List Slot) (c : Content) where
-  pub layer_sound : Layered f xs n k c → (layer_content xs c).held ≤ (layer_content xs c).limit → Sound (Layered f xs n k c) (layer_content xs c)
-  layer_sound l within =
-      record { kept = l; within = within; most = omega arith; counted = joined_counted xs c l.apart l.separate l.below.counted }
 
 -- a write to one of the layer's slots
 module _ (xs : List Slot) (c : Content) (q : Bits) (i : ℕ) (site : Site xs q i) (s : Slot) (of : Of q s) (none : c.map q ≡ absent) where

@@ -1,4 +1,5 @@
 pub mod Buckets
 pub mod Layers
 pub mod Places
-pub mod Views
+pub mod Seen
+pub mod Numbers

@@ -6,20 +6,17 @@
 --   LastResort xs w           a bucket with a free slot, whichever
 --   Lands f p xs c w           a new prefix goes to w: the least filled of its four buckets, below if that is full, the last resort if below is full too
 --   PutPlaces f p xs c ys d r where every row is after setting a hop
---   PutsIn                    all that setting a hop leaves, in one piece
 use Rattle.std.specs.Prelude.{◌≡◌, ℕ, ◌/◌, ◌<◌, cond, List, Some, None, MatchBool, Option, Result, MatchOption, MatchResult, nat_lt}
 use Rattle.bits.specs.Rows.{Bits, same}
 use Rattle.net.specs.Prefix.{row_of}
 use Rattle.net.specs.declared.prefix.Prefix.{Prefix}
 use Rattle.refusal.specs.declared.Refusal.{Refusal}
-use Rattle.store.specs.Content.{present, Content, Puts}
-use Rattle.store.specs.Slots.{spot}
-use Rattle.store.specs.declared.slot.Slot.{Slot}
+use Rattle.store.specs.Content.{present, Content}
+use Rattle.store.specs.Slots.{Slot, spot}
 use Rattle.layer.specs.declared.place.Place.{Place}
 use Rattle.layer.specs.declared.place.Place.TheVariants.{Bucket}
 use Rattle.layer.specs.declared.place.Place.TheVariants as place
 use Rattle.layer.specs.Buckets.{fill, choice}
-use Rattle.layer.specs.Layers.{layer_content, LayerSound}
 
 -- by the slot that has the row, if one has
 abbrev pub place_by : Content → Bits → Option ℕ → Option Place
@@ -49,9 +46,3 @@ PutPlaces f p xs c ys d r =
     MatchResult r
     (λ _. MatchOption (place_of xs c (row_of p)) ((w : Place) × (Lands f p xs c w × Placed (row_of p) (Some w) xs c ys d)) (λ _. Stay xs c ys d))
     (λ _. Stay xs c ys d)
-
--- what setting a hop leaves: the layer sound, its content and every row's place as promised
-pub record PutsIn (f : Prefix → ℕ → ℕ) (p : Prefix) (h : ℕ) (xs : List Slot) (c : Content) (ys : List Slot) (n : ℕ) (k : Type 0) (d : Content) (r : Result (Unit {0}) Refusal) : Type 0 where
-  pub keeps : LayerSound f ys n k d
-  pub puts : Puts (row_of p) h (layer_content xs c) (layer_content ys d) r
-  pub places : PutPlaces f p xs c ys d r

@@ -1,9 +1,8 @@
 // The buckets of a layer. Bucket b is the three slots from 3 × b on.
-ghost use Rattle.std.specs.Prelude.{◌≡◌, ◌≤◌, length, replicate, if◌then◌else◌, slice_set};
+ghost use Rattle.std.specs.Prelude.{◌≡◌, ◌≤◌, ◌<◌, None, length, replicate, slice_set};
 ghost use Rattle.net.specs.Prefix.{row_of};
-ghost use Rattle.store.specs.declared.slot.Slot.TheVariants.{Free};
-ghost use Rattle.store.specs.Slots.{at, spot, taken, told_by, used, Frees};
-ghost use Rattle.layer.specs.Buckets.{fill as fill_of, size_at_lem, FindsIn, FreesIn};
+ghost use Rattle.store.specs.Slots.{at, spot, told_by, used, Frees};
+ghost use Rattle.layer.specs.Buckets.{bucket as bucket_of, fill as fill_of, FindsIn, FreesIn};
 
 use net::Prefix;
 use store::{Slot, slot};
@@ -11,7 +10,7 @@ use store::{Slot, slot};
 // How many slots a layer has.
 pub const SLOTS: usize = 768;
 
-// `own` counts the entries.
+// `own` is no length: entries lie anywhere among the slots. It is kept, and tied to them, so that a store tells it at once.
 #[derive(Drop)]
 pub struct Buckets {
     slots: [Slot; SLOTS],
@@ -20,57 +19,12 @@ pub struct Buckets {
     ghost counted: { own ≡ used slots },
 }
 
-fn size(slot: &Slot) -> u64
-    ensures { result ≡ (if taken slot.now then 1 else 0) }
-{
-    if slot.is_taken() { 1 } else { 0 }
-}
-
-// The slot of the bucket that holds the prefix.
-fn find_in(slots: &[Slot; SLOTS], bucket: u8, prefix: &Prefix) -> Option<usize>
-    ensures { FindsIn slots.now bucket (row_of prefix.now) result }
-{
-    let first = 3 * bucket as usize;
-    for i in first..first + 3 {
-        let slot = &slots[i];
-        if slot.holds(prefix) {
-            return Some(i);
-        }
-    }
-    None
-}
-
-// The first free slot of the bucket.
-fn free_in(slots: &[Slot; SLOTS], bucket: u8) -> Option<usize>
-    ensures { FreesIn slots.now bucket result }
-{
-    let first = 3 * bucket as usize;
-    for i in first..first + 3 {
-        let slot = &slots[i];
-        if !slot.is_taken() {
-            return Some(i);
-        }
-    }
-    None
-}
-
-// How many entries the bucket has.
-fn fill(slots: &[Slot; SLOTS], bucket: u8) -> u64
-    ensures { result ≡ fill_of slots.now bucket }
-{
-    let first = 3 * bucket as usize;
-    let a = &slots[first];
-    let b = &slots[first + 1];
-    let c = &slots[first + 2];
-    size(a) + size(b) + size(c)
-}
-
 impl Buckets {
     pub fn empty() -> Buckets
-        ensures { result.slots ≡ replicate 768 Free }
+        ensures { result.slots ≡ replicate 768 None }
     {
         Buckets {
-            slots: [Slot::Free; SLOTS],
+            slots: [None; SLOTS],
             own: 0,
         }
     }
@@ -79,26 +33,40 @@ impl Buckets {
     pub fn used(&self) -> u64
         ensures { result ≡ used self.now.slots }
     {
-        let Buckets { own, .. } = self;
-        *own
+        self.own
     }
 
+    fn bucket(&self, bucket: u8) -> &[Slot]
+        ensures { result.now ≡ bucket_of self.now.slots bucket }
+    {
+        let first = 3 * usize::from(bucket);
+        &self.slots[first..first + 3]
+    }
+
+    // The slot of the bucket that holds the prefix.
     pub fn find_in(&self, bucket: u8, prefix: &Prefix) -> Option<usize>
         ensures { FindsIn self.now.slots bucket (row_of prefix.now) result }
     {
-        find_in(&self.slots, bucket, prefix)
+        let i = slot::find(self.bucket(bucket), prefix)?;
+        Some(3 * usize::from(bucket) + i)
     }
 
+    // The first free slot of the bucket.
     pub fn free_in(&self, bucket: u8) -> Option<usize>
         ensures { FreesIn self.now.slots bucket result }
     {
-        free_in(&self.slots, bucket)
+        let i = slot::find_free(self.bucket(bucket))?;
+        Some(3 * usize::from(bucket) + i)
     }
 
-    pub fn fill(&self, bucket: u8) -> u64
+    // How many entries the bucket has.
+    pub fn fill(&self, bucket: u8) -> usize
         ensures { result ≡ fill_of self.now.slots bucket }
     {
-        fill(&self.slots, bucket)
+        self.bucket(bucket)
+            .iter()
+            .filter(|slot| slot.is_some())
+            .count()
     }
 
     // The slot that holds the prefix, in whichever bucket.
@@ -120,12 +88,6 @@ impl Buckets {
         slot::hop_at(&self.slots, i)
     }
 
-    fn size_at(&self, i: usize) -> u64
-        ensures { result ≡ size_at_lem self.now.slots i }
-    {
-        if self.hop_at(i).is_some() { 1 } else { 0 }
-    }
-
     // Writes a slot; nothing past the last.
     pub fn write(&mut self, i: usize, slot: Slot)
         ensures { self.new.slots ≡ slice_set self.old.slots i slot }
@@ -133,9 +95,8 @@ impl Buckets {
         if i >= SLOTS {
             return;
         }
-        let before = self.size_at(i);
-        let after = size(&slot);
+        let before = self.slots[i];
         self.slots[i] = slot;
-        self.own = self.own - before + after;
+        self.own = self.own - u64::from(before.is_some()) + u64::from(slot.is_some());
     }
 }

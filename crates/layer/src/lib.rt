@@ -11,8 +11,6 @@ pub use layer::Layer;
 pub use place::Place;
 
 // The law of the choice among buckets, as a contract, so that a check asks for its proof.
-pub fn choice_law_stands() -> u8
+pub fn choice_law_stands()
     ensures { ChoiceLaw }
-{
-    0
-}
+{}

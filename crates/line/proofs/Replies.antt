@@ -1,60 +1,11 @@
 -- What a reply says, piece by piece. Assumes nothing.
-use Rattle.std.proofs.Common.{◌≡◌, ℕ, ◌+◌, ◌/◌, ◌%◌, ◌^◌, ◌<◌, ◌≤◌, List, [], ◌∷◌, ◌++◌, length, get_or, take, codes, decimal, sym, refl, ap, ◌∙◌, subst, append_assoc, arith, length-append}
-use Rattle.std.proofs.lemmas.List.{take_more, take_all}
-use Rattle.std.proofs.lemmas.Fmt.{decimal_digit, decimal_step, length-decimal-le}
+use Rattle.std.proofs.Common.{◌≡◌, ℕ, ◌+◌, ◌≤◌, List, [], ◌∷◌, ◌++◌, length, codes, decimal, ap, ◌∙◌, arith, length-append}
+use Rattle.std.proofs.lemmas.Fmt.{length-decimal-le}
 use Rattle.refusal.specs.Numbers.{number_of}
 use Rattle.refusal.specs.declared.Refusal.{Refusal}
 use Rattle.refusal.specs.declared.Refusal.TheVariants.{Length, HostBits, Hop, Unknown, RoutesFull, LeavesFull, VerticesFull, StoreFull, Stride, ImageRows, ImageBroken, Line, Field, AnswerRow}
 use Rattle.tree.specs.Ledger.{Answer, changed, hop, none, counts, refused}
-use Rattle.line.specs.Reply.{column_of, shown, said, written, Few, Says, labelled}
-use Rattle.line.specs.declared.buffer.Buffer.{Buffer}
-
--- one piece behind the other
-pub says_then : (r s t : Buffer) (xs ys : List ℕ) → Says r s xs → Says s t ys → Says r t (xs ++ ys)
-says_then r s t xs ys f h room =
-    let both : length (xs ++ ys) ≡ length xs + length ys = length-append xs ys in
-    let e : shown s ≡ shown r ++ xs = f (omega arith) in
-    let n : length (shown s) ≡ length (shown r) + length xs = ap length e ∙ length-append (shown r) xs in
-    h (omega arith) ∙ ap (λ z. z ++ ys) e ∙ append_assoc (shown r) xs ys
-
-pub says_none : (r : Buffer) → Says r r []
-says_none r room = sym (append_nil (shown r))
-  where
-    append_nil : (zs : List ℕ) → zs ++ [] ≡ zs
-    append_nil [] = refl
-    append_nil (z ∷ zs) = ap (λ ws. z ∷ ws) (append_nil zs)
-
--- a byte that has room is held
-pub says_byte : (r s : Buffer) (b : ℕ) → shown s ≡ take 81 (shown r ++ (b ∷ [])) → Says r s (b ∷ [])
-says_byte r s b e room =
-    let both : length (shown r ++ (b ∷ [])) ≡ length (shown r) + 1 = length-append (shown r) (b ∷ []) in
-    let all : length (shown r ++ (b ∷ [])) ≤ 81 = omega arith in
-    e ∙ take_all 81 (shown r ++ (b ∷ [])) all
-
-pub says_more : (r s t : Buffer) (bs : List ℕ) (i : ℕ) → i < length bs → Says r s (take i bs) → Says s t (get_or bs i 0 ∷ []) → Says r t (take (i + 1) bs)
-says_more r s t bs i h f k = subst (λ (z : List ℕ). Says r t z) (sym (take_more bs i 0 h)) (says_then r s t (take i bs) (get_or bs i 0 ∷ []) f k)
-
-pub says_digit : (r s : Buffer) (n : ℕ) → n < 10 → Says r s ((48 + n % 10) ∷ []) → Says r s (decimal n)
-says_digit r s n h f =
-    let e : n % 10 ≡ n = omega arith in
-    subst (λ (z : List ℕ). Says r s z) (ap (λ k. (48 + k) ∷ []) e ∙ sym (decimal_digit n h)) f
-
-pub says_number : (r s t : Buffer) (n : ℕ) → 10 ≤ n → n < 2 ^ 64 → Says r s (decimal (n / 10)) → Says s t ((48 + n % 10) ∷ []) → Says r t (decimal n)
-says_number r s t n h k f g = subst (λ (z : List ℕ). Says r t z) (sym (decimal_step n h k)) (says_then r s t (decimal (n / 10)) ((48 + n % 10) ∷ []) f g)
-
--- a number of 64 bits has at most 20 digits
-pub digits_few : (n : ℕ) → n < 2 ^ 64 → length (decimal n) ≤ 20
-digits_few n h = length-decimal-le 20 n (omega arith) (omega arith) h
-
-pub labelled_few : (w : List ℕ) (n : ℕ) → n < 2 ^ 64 → length (labelled w n) ≤ length w + 20
-labelled_few w n h = let e : length (labelled w n) ≡ length w + length (decimal n) = length-append w (decimal n) in omega (arith, digits_few n h)
-
--- the reply's last piece: it began with nothing, and there is room for all
-pub says_all : (r s t : Buffer) (xs ys : List ℕ) → shown r ≡ [] → Says r s xs → Says s t ys → length xs + length ys ≤ 81 → shown t ≡ xs ++ ys
-says_all r s t xs ys e f h room =
-    let none : length (shown r) ≡ 0 = ap length e in
-    let both : length (xs ++ ys) ≡ length xs + length ys = length-append xs ys in
-    says_then r s t xs ys f h (omega arith) ∙ ap (λ z. z ++ (xs ++ ys)) e
+use Rattle.line.specs.Reply.{column_of, said, written, Few, labelled}
 
 -- how long an answer's words are at most
 pub length_labelled : (w : List ℕ) (n : ℕ) → length (labelled w n) ≡ length w + length (decimal n)
@@ -81,15 +32,6 @@ numbers_short r = length-decimal-le 2 (number_of r) (omega arith) (omega (arith,
 
 three : (a b c : List ℕ) → length (a ++ (b ++ c)) ≡ length a + (length b + length c)
 three a b c = length-append a (b ++ c) ∙ ap (λ n. length a + n) (length-append b c)
-
-pub said_room : (x : Answer) → Few x → length (said x) + 1 ≤ 81
-said_room (changed n) f = omega (arith, length_labelled (codes "ok,") n)
-said_room (hop h) f = omega (arith, length_labelled (codes "hop,") h)
-said_room none f = omega arith
-said_room (counts a b d) f =
-    omega (arith, three (labelled (codes "count,") a) (labelled (codes ",") b) (labelled (codes ",") d), length_labelled (codes "count,") a, length_labelled (codes ",") b, length_labelled (codes ",") d, f.0, f.1, f.2)
-said_room (refused r) f =
-    omega (arith, length-append (labelled (codes "no,") (number_of r)) (labelled (codes ",") (column_of r)), length_labelled (codes "no,") (number_of r), length_labelled (codes ",") (column_of r), numbers_short r)
 
 -- the numbers that a count tells
 pub record Within (routes leaves vertices : ℕ) : Type 0 where

@@ -10,9 +10,8 @@ use Rattle.tree.specs.Tree.{Routes}
 use Rattle.tree.specs.Ledger as l
 use Rattle.tree.specs.LedgerLaws.{Sound}
 use Rattle.tree.proofs.Runs.{after_join, answers_join}
-use Rattle.store.specs.Content.{Content}
 use Rattle.engine.specs.Serves.{Ran}
-use Rattle.engine.specs.declared.engine.Engine.{Engine}
+use Rattle.engine.specs.State.{State}
 use Rattle.line.specs.Line.{Reading, call, bad, read_line, understood}
 use Rattle.line.specs.Told.{calls_in, line_calls, reading_turn, line_turn, replies, Told}
 use Rattle.line.specs.Reply.{written}
@@ -30,23 +29,23 @@ last_same : {A : Type 0} (xs : List A) (a b : A) → xs ++ (a ∷ []) ≡ xs ++ 
 last_same [] a b e = cc
 last_same (x ∷ xs) a b e = let f : xs ++ (a ∷ []) ≡ xs ++ (b ∷ []) = cc in last_same xs a b f
 
-module _ {F R L : Type 0} (g : l.Given) (kept_r : R → Type 0) (content_r : R → Content) (kept_l : L → Type 0) (content_l : L → Content) (ls : List (List ℕ)) (bs : List ℕ) where
-  pub tells_call : (c : l.Call) (x : l.Answer) (f : Engine F R L) → read_line g.width bs ≡ call c
-      → Ran g kept_r content_r kept_l content_l (line_calls g.width ls ++ (c ∷ [])) (l.answers g [] (line_calls g.width ls) ++ (x ∷ [])) f
-      → Told g kept_r content_r kept_l content_l (ls ++ (bs ∷ [])) f × ((line_turn g (l.after_calls g [] (line_calls g.width ls)) bs).1 ≡ x)
+module _ (g : l.Given) (ls : List (List ℕ)) (bs : List ℕ) where
+  pub tells_call : (c : l.Call) (x : l.Answer) (f : State) → read_line g.width bs ≡ call c
+      → Ran g (line_calls g.width ls ++ (c ∷ [])) (l.answers g [] (line_calls g.width ls) ++ (x ∷ [])) f
+      → Told g (ls ++ (bs ∷ [])) f × ((line_turn g (l.after_calls g [] (line_calls g.width ls)) bs).1 ≡ x)
   tells_call c x f e r =
       let joined = answers_join g [] (line_calls g.width ls) (c ∷ []) in
       let same : (l.turn g (l.after_calls g [] (line_calls g.width ls)) c).1 ≡ x =
       last_same (l.answers g [] (line_calls g.width ls)) (l.turn g (l.after_calls g [] (line_calls g.width ls)) c).1 x (sym joined ∙ sym r.law.answered) in (
-        subst (λ (cs : List l.Call). Ran g kept_r content_r kept_l content_l cs (l.answers g [] cs) f) (sym (one_line_more g.width ls bs (call c) e))
-            (subst (λ (xs : List l.Answer). Ran g kept_r content_r kept_l content_l (line_calls g.width ls ++ (c ∷ [])) xs f) r.law.answered r),
+        subst (λ (cs : List l.Call). Ran g cs (l.answers g [] cs) f) (sym (one_line_more g.width ls bs (call c) e))
+            (subst (λ (xs : List l.Answer). Ran g (line_calls g.width ls ++ (c ∷ [])) xs f) r.law.answered r),
         ap (λ y. (reading_turn g (l.after_calls g [] (line_calls g.width ls)) y).1) e ∙ same,
       )
 
-  pub tells_bad : (why : Refusal) (f : Engine F R L) → read_line g.width bs ≡ bad why → Told g kept_r content_r kept_l content_l ls f
-      → Told g kept_r content_r kept_l content_l (ls ++ (bs ∷ [])) f × ((line_turn g (l.after_calls g [] (line_calls g.width ls)) bs).1 ≡ l.refused why)
+  pub tells_bad : (why : Refusal) (f : State) → read_line g.width bs ≡ bad why → Told g ls f
+      → Told g (ls ++ (bs ∷ [])) f × ((line_turn g (l.after_calls g [] (line_calls g.width ls)) bs).1 ≡ l.refused why)
   tells_bad why f e t = (
-    subst (λ (cs : List l.Call). Ran g kept_r content_r kept_l content_l cs (l.answers g [] cs) f) (sym (one_line_more g.width ls bs (bad why) e ∙ append-nil (line_calls g.width ls))) t,
+    subst (λ (cs : List l.Call). Ran g cs (l.answers g [] cs) f) (sym (one_line_more g.width ls bs (bad why) e ∙ append-nil (line_calls g.width ls))) t,
     ap (λ y. (reading_turn g (l.after_calls g [] (line_calls g.width ls)) y).1) e,
   )
 
@@ -67,9 +66,9 @@ module _ (g : l.Given) (rs : Routes) (sound : Sound g rs) (routes : g.route_limi
   counted_reading (call l.count) = record { few_routes = omega (arith, sound.routes_fit); few_leaves = omega (arith, sound.leaves_fit); few_vertices = sound.vertices_fit }
   counted_reading (bad why) = tt
 
-pub counted_line : {F R L : Type 0} (g : l.Given) (kept_r : R → Type 0) (content_r : R → Content) (kept_l : L → Type 0) (content_l : L → Content) (ls : List (List ℕ)) (bs : List ℕ) (e : Engine F R L)
-    → Told g kept_r content_r kept_l content_l ls e → Counted (line_turn g (l.after_calls g [] (line_calls g.width ls)) bs).1
-counted_line g kept_r content_r kept_l content_l ls bs e t =
+pub counted_line : (g : l.Given) (ls : List (List ℕ)) (bs : List ℕ) (e : State)
+    → Told g ls e → Counted (line_turn g (l.after_calls g [] (line_calls g.width ls)) bs).1
+counted_line g ls bs e t =
     let stored = t.serves.stored in
     let routes : g.route_limit ≤ 16777216 = omega (arith, stored.routes_limit, stored.routes_sound.most) in
     let leaves : g.leaf_limit ≤ 16777216 = omega (arith, stored.leaves_limit, stored.leaves_sound.most) in

@@ -4,14 +4,11 @@
 --   written x        the line that says it, with its line feed
 --   Few x            no number in the answer x has more than 20 digits
 --   most_held        a buffer holds up to 81 bytes
---   shown r          what the buffer r holds
---   Says r s bs      where the bytes bs have room behind what the buffer r holds, s holds both
-use Rattle.std.specs.Prelude.{◌≡◌, ℕ, ◌+◌, ◌≤◌, List, [], ◌∷◌, ◌++◌, length, take, codes, decimal}
+use Rattle.std.specs.Prelude.{ℕ, ◌≤◌, List, [], ◌∷◌, ◌++◌, length, codes, decimal}
 use Rattle.refusal.specs.Numbers.{number_of}
 use Rattle.refusal.specs.declared.Refusal.{Refusal}
 use Rattle.refusal.specs.declared.Refusal.TheVariants.{Length, HostBits, Hop, Unknown, RoutesFull, LeavesFull, VerticesFull, StoreFull, Stride, ImageRows, ImageBroken, Line, Field, AnswerRow}
 use Rattle.tree.specs.Ledger.{Answer, changed, hop, none, counts, refused}
-use Rattle.line.specs.declared.buffer.Buffer.{Buffer}
 
 abbrev pub column_of : Refusal → ℕ
 column_of Length = 1
@@ -53,11 +50,5 @@ Few none = Unit {0}
 Few (counts routes leaves vertices) = short_number routes × short_number leaves × short_number vertices
 Few (refused r) = short_number (column_of r)
 
-abbrev pub shown : Buffer → List ℕ
-shown r = take r.len r.bytes
-
 abbrev pub most_held : ℕ
 most_held = 81
-
-abbrev pub Says : Buffer → Buffer → List ℕ → Type 0
-Says r s bs = length (shown r) + length bs ≤ most_held → shown s ≡ shown r ++ bs

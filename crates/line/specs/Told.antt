@@ -5,7 +5,7 @@
 --   replies g rs ls       what is written to the lines ls, one after the other, where the routes rs stand at first
 --   reply_to g ls bs      what is written to the line bs after the lines ls
 --   least_row             a row for an answer has at least 40 bytes
---   Told g .. ls e        the engine e has made the calls of the lines ls from its set-up on: the law over runs holds of them
+--   Told g ls s           an engine in the state s has made the calls of the lines ls from its set-up on: the law over runs holds of them
 --   RowKept a b r        a row of under 40 bytes is refused, and stays as it was; of any other the bytes behind those written do. a before, b after
 --   Replied bs a b r      the row, a before and b after, begins with the reply bs and is else as it was; r is the number of bytes written
 use Rattle.std.specs.Prelude.{◌≡◌, ℕ, ◌<◌, ◌≤◌, List, [], ◌∷◌, ◌++◌, length, drop, Result, MatchResult}
@@ -13,9 +13,8 @@ use Rattle.refusal.specs.declared.Refusal.{Refusal}
 use Rattle.refusal.specs.declared.Refusal.TheVariants.{AnswerRow}
 use Rattle.tree.specs.Tree.{Routes}
 use Rattle.tree.specs.Ledger.{Given, Call, Answer, refused, turn, after_calls, answers}
-use Rattle.store.specs.Content.{Content}
 use Rattle.engine.specs.Serves.{Ran}
-use Rattle.engine.specs.declared.engine.Engine.{Engine}
+use Rattle.engine.specs.State.{State}
 use Rattle.line.specs.Line.{Reading, call, bad, read_line}
 use Rattle.line.specs.Reply.{written}
 
@@ -44,8 +43,8 @@ reply_to g ls bs = written (line_turn g (after_calls g [] (line_calls g.width ls
 abbrev pub least_row : ℕ
 least_row = 40
 
-abbrev pub Told : {F R L : Type 0} → Given → (R → Type 0) → (R → Content) → (L → Type 0) → (L → Content) → List (List ℕ) → Engine F R L → Type 0
-Told g kept_r content_r kept_l content_l ls e = Ran g kept_r content_r kept_l content_l (line_calls g.width ls) (answers g [] (line_calls g.width ls)) e
+abbrev pub Told : Given → List (List ℕ) → State → Type 0
+Told g ls s = Ran g (line_calls g.width ls) (answers g [] (line_calls g.width ls)) s
 
 abbrev pub RowKept : List ℕ → List ℕ → Result ℕ Refusal → Type 0
 RowKept before after r = MatchResult r (λ n. (least_row ≤ length before) × (n ≤ length before) × (drop n after ≡ drop n before)) (λ why. (length before < least_row) × (why ≡ AnswerRow) × (after ≡ before))

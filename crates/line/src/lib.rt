@@ -8,4 +8,4 @@ mod write;
 
 pub use buffer::Buffer;
 pub use read::read_call;
-pub use tell::answer_line;
+pub use tell::{LEAST_ROW, answer_line};

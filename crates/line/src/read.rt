@@ -13,19 +13,16 @@ use refusal::Refusal;
 // The call that a line stands for to a family. Refused: a line that is no command, and any line where the width is no multiple of 4;
 // then the leftmost field that is ill written.
 pub fn read_call<F: Family + Copy>(line: &[u8]) -> Result<Call<F>, Refusal>
-    ensures { Means F.Family.row (read_line F.Family.wide line.now) result }
+    ensures { Means F.Family.row (read_line F.W line.now) result }
 {
-    if F::width() % 4 != 0 {
+    if F::W % 4 != 0 {
         return Err(Refusal::Line);
     }
-    match command::read(line) {
-        Some(command) => call_of(command),
-        None => Err(Refusal::Line),
-    }
+    call_of(command::read(line).ok_or(Refusal::Line)?)
 }
 
 fn call_of<F: Family + Copy>(command: Command<'_>) -> Result<Call<F>, Refusal>
-    ensures { Means F.Family.row (meant F.Family.wide (spelled command.entry)) result }
+    ensures { Means F.Family.row (meant F.W (spelled command.entry)) result }
 {
     match command {
         Command::Announce(address, len, hop) => {
@@ -39,35 +36,35 @@ fn call_of<F: Family + Copy>(command: Command<'_>) -> Result<Call<F>, Refusal>
             let len = read_number(len)?;
             Ok(Call::Withdraw(address, len))
         }
-        Command::Lookup(address) => {
-            let address = read_address(address)?;
-            Ok(Call::Lookup(address))
-        }
+        Command::Lookup(address) => Ok(Call::Lookup(read_address(address)?)),
         Command::Count => Ok(Call::Count),
     }
 }
 
 // The address whose bits the field writes, four with each digit.
 fn read_address<F: Family + Copy>(field: Field<'_>) -> Result<F, Refusal>
-    ensures { ReadsField (part_of field.entry).column (address F.Family.wide (part_of field.entry).bytes) (λ a. Some (F.Family.row a)) result }
+    ensures { ReadsField (part_of field.entry).column (address F.W (part_of field.entry).bytes) (λ a. Some (F.Family.row a)) result }
 {
-    let column = field.column;
-    if field.bytes.len().saturating_mul(4) != F::width() {
-        return Err(Refusal::Field { column });
+    if field.bytes.len().saturating_mul(4) != F::W {
+        return Err(ill_written(field));
     }
-    match text::hexadecimal(field.bytes) {
-        Some((first, second)) => Ok(F::from_halves(first, second)),
-        None => Err(Refusal::Field { column }),
-    }
+    let halves = text::hexadecimal(field.bytes).ok_or(ill_written(field))?;
+    Ok(F::from_halves(halves))
 }
 
 fn read_number(field: Field<'_>) -> Result<u64, Refusal>
     ensures { ReadsField (part_of field.entry).column (decimal (part_of field.entry).bytes) (λ n. Some n) result }
 {
-    match text::decimal(field.bytes) {
-        Some(number) => Ok(u64::from(number)),
-        None => Err(Refusal::Field {
-            column: field.column,
-        }),
+    text::decimal(field.bytes)
+        .map(u64::from)
+        .ok_or(ill_written(field))
+}
+
+// Why a field is refused that writes nothing.
+fn ill_written(field: Field<'_>) -> Refusal
+    ensures { result ≡ refusals.Field field.entry.column }
+{
+    Refusal::Field {
+        column: field.column,
     }
 }

@@ -1,110 +1,57 @@
-// Holding a text, and writing an answer.
-ghost use Rattle.std.specs.Prelude.{◌≡◌, min, [], ◌∷◌, ◌++◌, length, take, drop, decimal};
+// How an answer is written.
+ghost use Rattle.std.specs.Prelude.{◌≡◌, ◌+◌, ◌<◌, ◌≤◌, ◌++◌, length};
 ghost use Rattle.engine.specs.Calls.{answer_of};
-ghost use Rattle.line.specs.Reply.{column_of, labelled, said, short_number, shown, written, Few, Says, most_held};
+ghost use Rattle.line.specs.Reply.{column_of, labelled, said, short_number, written, Few, most_held};
 
 use crate::buffer::Buffer;
 use engine::Answer;
 use refusal::Refusal;
 
-// How many bytes a buffer holds.
-const MOST_HELD: usize = 81;
-
+// No `write!`: its clauses say nothing of where it may fail, and an answer is always owed.
 impl Buffer {
-    pub fn empty() -> Buffer
-        ensures { shown result ≡ [] }
-    {
-        Buffer {
-            bytes: [0; 81],
-            len: 0,
-        }
-    }
-
-    // What is held.
-    pub fn bytes(&self) -> &[u8]
-        ensures { result.now ≡ shown self.now }
-    {
-        &self.bytes[0..self.len]
-    }
-
-    // One byte more; past 81 it is let go.
-    pub fn push(&mut self, b: u8)
-        ensures { shown self.new ≡ take most_held (shown self.old ++ (b ∷ [])) }
-    {
-        if self.len < MOST_HELD {
-            self.bytes[self.len] = b;
-            self.len += 1;
-        }
-    }
-
     // The line that says an answer.
     pub fn reply(answer: Answer) -> Buffer
-        ensures line { shown result ≡ written (answer_of answer) }
+        ensures line { result ≡ written (answer_of answer) }
         ensures few { Few (answer_of answer) }
     {
-        let mut reply = Buffer::empty();
-        reply.say(answer);
-        reply.push(b'\n');
+        let mut reply = Buffer::words(answer);
+        reply.text(b"\n");
         reply
     }
 
-    fn say(&mut self, answer: Answer)
-        ensures says { Says self.old self.new (said (answer_of answer)) }
+    // The words and numbers that say an answer.
+    fn words(answer: Answer) -> Buffer
+        ensures says { result ≡ said (answer_of answer) }
         ensures few { Few (answer_of answer) }
+        ensures room { length result < most_held }
     {
+        let mut words = Buffer::empty();
         match answer {
-            Answer::Changed(new) => self.label(b"ok,", new),
-            Answer::Hop(hop) => self.label(b"hop,", u64::from(hop)),
-            Answer::NoRoute => self.text(b"none"),
+            Answer::Changed(new) => words.label(b"ok,", new),
+            Answer::Hop(hop) => words.label(b"hop,", u64::from(hop)),
+            Answer::NoRoute => words.text(b"none"),
             Answer::Counts(routes, leaves, vertices) => {
-                self.label(b"count,", routes);
-                self.label(b",", leaves);
-                self.label(b",", vertices);
+                words.label(b"count,", routes);
+                words.label(b",", leaves);
+                words.label(b",", vertices);
             }
             Answer::Refused(refusal) => {
-                self.label(b"no,", u64::from(refusal.number()));
-                self.label(b",", column(refusal));
+                words.label(b"no,", u64::from(refusal.number()));
+                words.label(b",", column(refusal));
             }
         }
+        words
     }
 
-    // A word or a mark, and a number behind it.
+    // A word or a mark, and a number behind it, which has 20 digits at most.
     fn label(&mut self, word: &[u8], n: u64)
-        ensures says { Says self.old self.new (labelled word.now n) }
+        requires { length self.old + length word.now + 20 ≤ most_held }
+        ensures says { self.new ≡ self.old ++ labelled word.now n }
         ensures few { short_number n }
     {
+        let mut digits = itoa::Buffer::new();
         self.text(word);
-        self.number(n);
-    }
-
-    fn text(&mut self, text: &[u8])
-        ensures { Says self.old self.new text.now }
-    {
-        for b in text {
-            self.push(*b);
-        }
-    }
-
-    // A number, in decimal digits.
-    fn number(&mut self, n: u64)
-        ensures { Says self.old self.new (decimal n) }
-    {
-        if n >= 10 {
-            self.number(n / 10);
-        }
-        self.push(b'0' + (n % 10) as u8);
-    }
-
-    // Writes as much of the reply as the row has room for, and says how much that is.
-    pub fn copy_to(&self, row: &mut [u8]) -> usize
-        ensures number { result ≡ min (length (shown self.now)) (length row.old) }
-        ensures bytes { row.new ≡ take result (shown self.now) ++ drop result row.old }
-    {
-        let n = self.len.min(row.len());
-        for i in 0..n {
-            row[i] = self.bytes[i];
-        }
-        n
+        self.text(digits.format(n).as_bytes());
     }
 }
 

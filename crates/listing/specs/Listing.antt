@@ -2,8 +2,7 @@
 --   Reading               a prefix, by the row of its bits, or a refusal
 --   address_row f         the bits of an address field: 8 hexadecimal digits are IPv4, 32 are IPv6
 --   read_prefix bs        what an address and a length, parted by a comma, stand for
---   read-route bs         what an address, a length and a hop stand for
---   Reads, Reads-route    an answer is what the line stands for
+--   Reads                 an answer is what the line stands for
 use Rattle.std.specs.Prelude.{◌≡◌, ℕ, ◌+◌, cond, ◌||◌, List, [], ◌∷◌, length, take, Some, None, Option, Result, MatchResult, ◌==◌}
 use Rattle.bits.specs.Rows.{Bits}
 use Rattle.refusal.specs.declared.Refusal.{Refusal}

@@ -6,7 +6,8 @@ ghost use Rattle.bits.specs.Rows.{word};
 ghost use Rattle.bits.proofs.Words.{length_word};
 ghost use Rattle.std.proofs.Common.{rules};
 
-use net::{Family, Prefix, halves};
+use bits::Halves;
+use net::Family;
 
 #[derive(Clone, Copy, Debug)]
 pub struct Narrow {
@@ -17,9 +18,9 @@ pub struct Narrow {
 impl Family for Narrow {
     const W: usize = 5;
 
-    ghost row = { λ a. word 5 a.number };
+    ghost W = { 5 };
 
-    ghost wide = { 5 };
+    ghost row = { λ a. word 5 a.number };
 
     ghost least = { Prim.search rules };
 
@@ -27,21 +28,16 @@ impl Family for Narrow {
 
     ghost rows = { λ a. length_word 5 a.number };
 
-    fn width() -> usize {
-        Self::W
+    fn halves(&self) -> Halves {
+        Halves {
+            first: u64::from(self.number) << 59,
+            second: 0,
+        }
     }
 
-    fn bit(&self, i: usize) -> bool {
-        halves::bit(u64::from(self.number) << 59, 0, i)
-    }
-
-    fn front(&self, d: usize) -> Prefix {
-        Prefix::front_of(u64::from(self.number) << 59, 0, d.min(Self::W))
-    }
-
-    fn from_halves(first: u64, _second: u64) -> Narrow {
+    fn from_halves(halves: Halves) -> Narrow {
         Narrow {
-            number: (first >> 59) as u8,
+            number: (halves.first >> 59) as u8,
         }
     }
 }
@@ -54,7 +50,10 @@ mod tests {
     #[test]
     fn all_addresses(rt: HostRuntime) {
         for n in 0..32u64 {
-            let address = Narrow::from_halves(n * 576460752303423488, 0);
+            let address = Narrow::from_halves(Halves {
+                first: n << 59,
+                second: 0,
+            });
             for i in 0..8usize {
                 let expected = i < 5 && (n >> (4 - i.min(4))) % 2 == 1;
                 assert_eq!(rt; address.bit(i), expected);

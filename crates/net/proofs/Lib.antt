@@ -1,3 +1,3 @@
 pub mod Prefixes
-pub mod Children
 pub mod Families
+pub mod Equality

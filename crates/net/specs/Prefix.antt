@@ -10,7 +10,7 @@ use Rattle.refusal.specs.declared.Refusal.TheVariants.{Length, HostBits}
 use Rattle.net.specs.declared.prefix.Prefix.{Prefix}
 
 unfoldable pub row_of : Prefix → Bits
-row_of p = take p.len (halves p.first p.second)
+row_of p = take p.len (halves p.halves.first p.halves.second)
 
 abbrev pub refusal_of : ℕ → Bits → ℕ → Option Refusal
 refusal_of w a n = cond (nat_lt w n) (Some Length) (cond (any_one (drop n a)) (Some HostBits) None)

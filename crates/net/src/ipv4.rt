@@ -3,7 +3,8 @@ ghost use Rattle.bits.specs.Rows.{word};
 ghost use Rattle.bits.proofs.Words.{length_word};
 ghost use Rattle.std.proofs.Common.{rules};
 
-use crate::{Family, Prefix, halves};
+use crate::Family;
+use bits::Halves;
 
 #[derive(Clone, Copy, PartialEq, Eq, Debug)]
 pub struct Ipv4(pub u32);
@@ -11,9 +12,9 @@ pub struct Ipv4(pub u32);
 impl Family for Ipv4 {
     const W: usize = 32;
 
-    ghost row = { λ a. word 32 a.0 };
+    ghost W = { 32 };
 
-    ghost wide = { 32 };
+    ghost row = { λ a. word 32 a.0 };
 
     ghost least = { Prim.search rules };
 
@@ -21,19 +22,14 @@ impl Family for Ipv4 {
 
     ghost rows = { λ a. length_word 32 a.0 };
 
-    fn width() -> usize {
-        Self::W
+    fn halves(&self) -> Halves {
+        Halves {
+            first: u64::from(self.0) << 32,
+            second: 0,
+        }
     }
 
-    fn bit(&self, i: usize) -> bool {
-        halves::bit(u64::from(self.0) << 32, 0, i)
-    }
-
-    fn front(&self, d: usize) -> Prefix {
-        Prefix::front_of(u64::from(self.0) << 32, 0, d.min(Self::W))
-    }
-
-    fn from_halves(first: u64, _second: u64) -> Ipv4 {
-        Ipv4((first >> 32) as u32)
+    fn from_halves(halves: Halves) -> Ipv4 {
+        Ipv4((halves.first >> 32) as u32)
     }
 }

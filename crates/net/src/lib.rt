@@ -2,7 +2,6 @@
 #![tactic(auto)]
 
 pub mod family;
-pub mod halves;
 pub mod ipv4;
 pub mod ipv6;
 pub mod prefix;

@@ -1,24 +1,28 @@
--- The leaves that painting from a node reaches: they lie below it, none is met twice, and they rest on the routes' nodes alone. Assumes nothing.
+-- The leaves that a node decides lie below it, and none is met twice. Assumes nothing.
 use Rattle.std.proofs.Common.{◌≡◌, Bool, true, false, ◌⊎◌, List, [], ◌∷◌, ◌++◌, sym, refl, ◌∙◌, inl, inr}
 use Rattle.std.proofs.lemmas.Bool.{cases_Bool, or_cases, or_left, or_parts, or_from, true≢false}
-use Rattle.bits.specs.Lists.{any}
+use Rattle.bits.specs.Lists.{any, only}
 use Rattle.bits.specs.Rows.{Bits, same, begins}
 use Rattle.bits.proofs.Sets.{NoRepeats}
+use Rattle.bits.proofs.Tests.{any_fewer}
 use Rattle.bits.proofs.Members.{any_join, same_self}
 use Rattle.bits.proofs.Begins.{begins_same, begins_shorter, begins_one_side}
 use Rattle.tree.specs.Tree.{Shape, leaf, fork}
 use Rattle.tree.specs.Changes.{painted, unless}
-use Rattle.paint.specs.Paint.{side}
-use Rattle.paint.proofs.Writes.{Apart}
+use Rattle.paint.specs.Reach.{nameable, reached}
 
-abbrev pub Below : Bits → List Bits → Type 0
+-- no row is in both
+abbrev Apart : List Bits → List Bits → Type 0
+Apart xs ys = (q : Bits) → any (same q) ys ≡ true → any (same q) xs ≡ false
+
+abbrev Below : Bits → List Bits → Type 0
 Below q xs = (p : Bits) → any (same p) xs ≡ true → begins q p ≡ true
 
 below_unless : (b : Bool) (q : Bits) (xs : List Bits) → Below q xs → Below q (unless b xs)
 below_unless true q xs h p k = absurd (true≢false (sym k))
 below_unless false q xs h p k = h p k
 
-pub below_append : (q : Bits) (xs ys : List Bits) → Below q xs → Below q ys → Below q (xs ++ ys)
+below_append : (q : Bits) (xs ys : List Bits) → Below q xs → Below q ys → Below q (xs ++ ys)
 below_append q xs ys f g p h = elim (or_cases _ _ (sym (any_join (same p) xs ys) ∙ h)) [ inl k ↦ f p k | inr k ↦ g p k ]
 
 repeats_unless : (b : Bool) (xs : List Bits) → NoRepeats same xs → NoRepeats same (unless b xs)
@@ -36,8 +40,20 @@ repeats_join (x ∷ xs) ys (new, h) k apart = (
     fresh (inl e) = absurd (true≢false (sym (or_left (same x x) (any (same x) xs) (same_self x)) ∙ apart x e))
     fresh (inr e) = e
 
+once_only : (t : Bits → Bool) (xs : List Bits) → NoRepeats same xs → NoRepeats same (only t xs)
+once_only t [] h = tt
+once_only t (x ∷ xs) (new, h) = go (t x) (any_fewer (same x) t xs new) (once_only t xs h)
+  where
+    go : (b : Bool) → any (same x) (only t xs) ≡ false → NoRepeats same (only t xs) → NoRepeats same (elim b [ true ↦ x ∷ only t xs | false ↦ only t xs ])
+    go true new ih = (new, ih)
+    go false new ih = ih
+
 module _ (own : Bits → Bool) where
-  pub below_painted : (t : Shape) (q : Bits) → Below q (painted own t q)
+  -- what painting reaches on a side
+  abbrev part : Shape → Bits → Bool → List Bits
+  part t q b = unless (own (q ++ (b ∷ []))) (painted own t (q ++ (b ∷ [])))
+
+  below_painted : (t : Shape) (q : Bits) → Below q (painted own t q)
   unfolding painted
   below_painted leaf q p h = elim (or_cases (same p q) false h) [ inl k ↦ begins_same q p k | inr k ↦ absurd (true≢false (sym k)) ]
   below_painted (fork a b) q p h =
@@ -49,27 +65,24 @@ module _ (own : Bits → Bool) where
       p h
 
   -- what lies below one side does not lie below the other
-  pub sides_apart : (a b : Shape) (q : Bits) → Apart (side own a q false) (side own b q true)
+  sides_apart : (a b : Shape) (q : Bits) → Apart (part a q false) (part b q true)
   sides_apart a b q p h =
-      elim (cases_Bool (any (same p) (side own a q false))) [
+      elim (cases_Bool (any (same p) (part a q false))) [
         | inl k ↦ absurd (begins_one_side q p
             (below_unless (own (q ++ (false ∷ []))) _ _ (below_painted a _) p k)
             (below_unless (own (q ++ (true ∷ []))) _ _ (below_painted b _) p h))
         | inr k ↦ k
       ]
 
-  pub painted_once : (t : Shape) (q : Bits) → NoRepeats same (painted own t q)
+  painted_once : (t : Shape) (q : Bits) → NoRepeats same (painted own t q)
   unfolding painted
   painted_once leaf q = (refl, tt)
   painted_once (fork a b) q =
-      repeats_join (side own a q false) (side own b q true)
+      repeats_join (part a q false) (part b q true)
       (repeats_unless (own (q ++ (false ∷ []))) _ (painted_once a (q ++ (false ∷ []))))
       (repeats_unless (own (q ++ (true ∷ []))) _ (painted_once b (q ++ (true ∷ []))))
       (sides_apart a b q)
 
--- tests that agree on each node paint the same leaves
-pub painted_like : (own own' : Bits → Bool) → ((q : Bits) → own q ≡ own' q) → (t : Shape) (q : Bits) → painted own t q ≡ painted own' t q
-unfolding painted
-painted_like own own' h leaf q = refl
-painted_like own own' h (fork a b) q =
-    rw (h (q ++ (false ∷ [])), h (q ++ (true ∷ [])), painted_like own own' h a (q ++ (false ∷ [])), painted_like own own' h b (q ++ (true ∷ [])))
+  pub reached_once : (t : Shape) (q : Bits) → NoRepeats same (reached own t q)
+  unfolding reached
+  reached_once t q = once_only nameable (painted own t q) (painted_once t q)

@@ -1,6 +1,6 @@
-pub mod Marks
 pub mod Lengths
-pub mod Writes
+pub mod Reaching
 pub mod Below
-pub mod Paints
-pub mod Counts
+pub mod Adding
+pub mod Marking
+pub mod Whole

@@ -1,1 +1,3 @@
 pub mod Paint
+pub mod Reach
+pub mod Whole

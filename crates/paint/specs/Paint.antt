@@ -1,28 +1,24 @@
--- What painting the leaves below a node does to their store, and how many of them are new to it. Assumes nothing.
---   has m q             the map has the row q
---   missing m q         the map does not have it
+-- What painting the leaves that a node decides does to their store, and how many of them are new to it. Assumes nothing.
+--   missing m q         the map does not have the row q
 --   entries hop xs      how many entries the rows xs come to, each with the hop, or with none
---   fair hop            the hop is none, or 1 to 65,535
---   Painted             the rows xs were given the hop, or none, all of them where ok; before and after are what the store held
---   Fits q t            no leaf of the tree t below the node q has more bits than a prefix may have
---   side own t q b      the leaves that painting reaches from q's child on the side b, with the tree t below it, unless it has a route of its own
+--   fair hop            the hop is none, or one that is a hop
+--   refusal c q hop     the first check that refuses to give the row q the hop; to take its entry out is never refused
+--   Marks hop a q r b   what giving the row q the hop, or taking its entry out, answers and leaves; a before, b after
+--   Done xs hop a b     each of the rows xs has the hop, which is a fair one, and every other row is as it was
+--   Stops xs hop a b w  a first part of the rows xs is done, and the store refused the next one, by w
+--   Painted xs hop a b r  r tells which of the two it is
 --   Paints              what painting from the node q does, where the edge e leads to the tree below it
---   PaintsSide         the same from q's child on the side b
 --   Counts              n of the leaves that painting reaches have no entry yet; 2 ^ 64 - 1 stands for more as well
---   CountsSide         the same from q's child on the side b
-use Rattle.std.specs.Prelude.{◌≡◌, ℕ, ◌+◌, ◌-◌, ◌^◌, ◌≤◌, min, Bool, true, false, cond, not, List, [], ◌∷◌, ◌++◌, length, Some, None}
+use Rattle.std.specs.Prelude.{◌≡◌, ℕ, ◌+◌, ◌-◌, ◌^◌, min, Bool, true, cond, not, List, ◌∷◌, ◌++◌, Some, None, Option, Result, MatchResult}
 use Rattle.bits.specs.Lists.{any, count}
 use Rattle.bits.specs.Rows.{Bits, same}
+use Rattle.refusal.specs.declared.Refusal.{Refusal}
 use Rattle.tree.specs.Tree.{Shape}
-use Rattle.tree.specs.Changes.{painted, unless}
-use Rattle.store.specs.Content.{Told, Map, Content, present, bad_hop}
+use Rattle.store.specs.Content.{Told, Map, Content, Wrote, present, bad_hop, put_refusal}
 use Rattle.graph.specs.Slots.{Unfolds}
-use Rattle.graph.specs.Keep.{depth}
 use Rattle.graph.specs.declared.edge.Edge.{Edge}
 use Rattle.graph.specs.declared.vertex.Vertex.{Vertex}
-
-abbrev pub has : Map → Bits → Bool
-has m q = present (m q)
+pub use Rattle.paint.specs.Reach.{has, reached}
 
 abbrev pub missing : Map → Bits → Bool
 missing m q = not (has m q)
@@ -34,34 +30,34 @@ abbrev pub fair : Told → Bool
 fair None = true
 fair (Some h) = not (bad_hop h)
 
-pub record Painted (xs : List Bits) (hop : Told) (before after : Content) (ok : Bool) : Type 0 where
-  pub limits : after.limit ≡ before.limit
-  pub rows : ok ≡ true → (q : Bits) → after.map q ≡ cond (any (same q) xs) hop (before.map q)
-  pub number : ok ≡ true → after.held + count (has before.map) xs ≡ before.held + entries hop xs
-  -- it is refused only for want of room, and to erase is never refused
-  pub room : before.held + count (missing before.map) xs ≤ before.limit → ok ≡ true
-  pub none : present hop ≡ false → ok ≡ true
-  -- no other row is touched, done or refused
-  pub elsewhere : (q : Bits) → any (same q) xs ≡ false → after.map q ≡ before.map q
+abbrev pub refusal : Content → Bits → Told → Option Refusal
+refusal c q None = None
+refusal c q (Some h) = put_refusal c q h
 
-abbrev pub Fits : Bits → Shape → Type 0
-Fits q t = length q + depth t ≤ 128
+pub record Marks (hop : Told) (a : Content) (q : Bits) (r : Result (Unit {0}) Refusal) (b : Content) : Type 0 where
+  pub limits : b.limit ≡ a.limit
+  pub marked : MatchResult r (λ _. (refusal a q hop ≡ None) × Wrote q hop a b) (λ why. (refusal a q hop ≡ Some why) × (b ≡ a))
 
-abbrev pub side : (Bits → Bool) → Shape → Bits → Bool → List Bits
-side own t q b = unless (own (q ++ (b ∷ []))) (painted own t (q ++ (b ∷ [])))
+pub record Done (xs : List Bits) (hop : Told) (a b : Content) : Type 0 where
+  pub limits : b.limit ≡ a.limit
+  pub rows : (q : Bits) → b.map q ≡ cond (any (same q) xs) hop (a.map q)
+  pub number : b.held + count (has a.map) xs ≡ a.held + entries hop xs
+  -- no row is given a number that is no hop
+  pub good : (q : Bits) → any (same q) xs ≡ true → fair hop ≡ true
 
-abbrev pub Paints : Map → List Vertex → Edge → Bits → Told → Content → Content → Bool → Type 0
-Paints routes slots e q hop before after ok =
-    fair hop ≡ true → (t : Shape) → Unfolds slots e t → Fits q t → Painted (painted (has routes) t q) hop before after ok
+pub record Stops (xs : List Bits) (hop : Told) (a b : Content) (why : Refusal) : Type 0 where
+  pub first : List Bits
+  pub next : Bits
+  pub rest : List Bits
+  pub parts : xs ≡ first ++ (next ∷ rest)
+  pub done : Done first hop a b
+  pub refuses : refusal b next hop ≡ Some why
 
-abbrev pub PaintsSide : Map → List Vertex → Edge → Bits → Bool → Told → Content → Content → Bool → Type 0
-PaintsSide routes slots e q b hop before after ok =
-    fair hop ≡ true → (t : Shape) → Unfolds slots e t → Fits (q ++ (b ∷ [])) t → Painted (side (has routes) t q b) hop before after ok
+abbrev pub Painted : List Bits → Told → Content → Content → Result (Unit {0}) Refusal → Type 0
+Painted xs hop a b r = MatchResult r (λ _. Done xs hop a b) (Stops xs hop a b)
+
+abbrev pub Paints : Map → List Vertex → Edge → Bits → Told → Content → Content → Result (Unit {0}) Refusal → Type 0
+Paints routes slots e q hop a b r = (t : Shape) → Unfolds slots e t → Painted (reached (has routes) t q) hop a b r
 
 abbrev pub Counts : Map → Map → List Vertex → Edge → Bits → ℕ → Type 0
-Counts routes leaves slots e q n =
-    (t : Shape) → Unfolds slots e t → Fits q t → n ≡ min (count (missing leaves) (painted (has routes) t q)) (2 ^ 64 - 1)
-
-abbrev pub CountsSide : Map → Map → List Vertex → Edge → Bits → Bool → ℕ → Type 0
-CountsSide routes leaves slots e q b n =
-    (t : Shape) → Unfolds slots e t → Fits (q ++ (b ∷ [])) t → n ≡ min (count (missing leaves) (side (has routes) t q b)) (2 ^ 64 - 1)
+Counts routes leaves slots e q n = (t : Shape) → Unfolds slots e t → n ≡ min (count (missing leaves) (reached (has routes) t q)) (2 ^ 64 - 1)

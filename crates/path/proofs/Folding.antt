@@ -1,5 +1,5 @@
 -- Folding a path back: one step up, and what the whole path leaves. Assumes nothing.
-use Rattle.std.proofs.Common.{◌≡◌, ℕ, ◌+◌, ◌<◌, ◌≤◌, Bool, true, false, not, ◌&&◌, ◌||◌, List, [], ◌∷◌, ◌++◌, length, get_or, take, drop, Result, sym, refl, ap, ◌∙◌, subst, inl, inr, arith, MatchResult}
+use Rattle.std.proofs.Common.{◌≡◌, ℕ, ◌+◌, ◌<◌, ◌≤◌, Bool, true, false, cond, not, ◌&&◌, ◌||◌, List, [], ◌∷◌, ◌++◌, length, get_or, take, drop, Result, sym, refl, ap, ◌∙◌, subst, inl, inr, arith, MatchResult}
 use mathlib.Core.Path.{fun_ext}
 use mathlib.Core.List.{Mem, not-mem-nil}
 use Rattle.std.proofs.lemmas.List.{length-take-le, take_more, drop_all, append_assoc}
@@ -13,15 +13,15 @@ use Rattle.store.specs.Content.{Map}
 use Rattle.refusal.specs.declared.Refusal.{Refusal}
 use Rattle.tree.specs.Tree.{Shape, leaf, fork, shapes}
 use Rattle.tree.specs.Changes.{below, folded, pruned}
-use Rattle.graph.specs.Slots.{led, next, Unfolds, unfolds_end, Sound}
+use Rattle.graph.specs.Slots.{is_end, led, next, Unfolds, unfolds_end, Sound}
 use Rattle.graph.specs.Calls.{Kept, Made, Refused}
 use Rattle.graph.specs.Grow.{New, Pathed, Stopped}
 use Rattle.graph.specs.declared.edge.Edge.{Edge}
 use Rattle.graph.specs.declared.edge.Edge.TheVariants.{End, To}
 use Rattle.graph.specs.declared.vertex.Vertex.{Vertex}
 use Rattle.graph.proofs.Growing.{side, taken, goes_on, left_within, right_within, new_none, stopped_up, refused_up, made_up, grown_whole, too_many}
-use Rattle.path.specs.Prune.{others, seen_from, owning, is_end, folding, Prunes, PrunesBelow}
-use Rattle.path.proofs.Descending.{is_leaf, end_leaf, vertex_forks, follows}
+use Rattle.path.specs.Prune.{others, seen_from, owning, folding, Prunes, PrunesBelow}
+use Rattle.graph.proofs.Descending.{is_leaf, end_leaf, vertex_forks, follows}
 
 -- a fold is a leaf where both sides are and neither has a route of its own, and else a fork
 folded_leaf : (o : Bool) (a b : Shape) → is_leaf a ≡ true → is_leaf b ≡ true → o ≡ false → folded o a b ≡ leaf
@@ -158,17 +158,17 @@ module _ (xs ys : List Vertex) (node : Edge) (n : ℕ) (is : node ≡ To n) (t :
       stands : ((is_leaf under && is_leaf beyond) && not (owning test)) ≡ false
       stands = ap (λ x. (x && is_leaf beyond) && not (owning test)) (sym (end_leaf path.unfolds)) ∙ ap (λ x. (is_end e && x) && not (owning test)) (sym (end_leaf other)) ∙ stays
 
-      pub up_zero : b ≡ false → Forks e beside → MatchResult r (Pathed xs zs whole) (Stopped xs zs whole)
-      up_zero zero made = subst (λ s. MatchResult r (Pathed xs zs s) (Stopped xs zs s)) (sym (on_zero zero ∙ folded_fork _ under beyond stands)) (MatchResult-weaker r
-          (made under beyond (taken path.unfolds) (taken there))
-          (λ f m. made_up xs ys _ _ under (left_within _ _) zs f path.new more m)
-          (λ why full. refused_up xs ys _ _ under (left_within _ _) zs why path.new full))
-
-      pub up_one : b ≡ true → Forks beside e → MatchResult r (Pathed xs zs whole) (Stopped xs zs whole)
-      up_one one made = subst (λ s. MatchResult r (Pathed xs zs s) (Stopped xs zs s)) (sym (on_one one ∙ folded_fork _ beyond under (grind (arith, stands)))) (MatchResult-weaker r
-          (made beyond under (taken there) (taken path.unfolds))
-          (λ f m. made_up xs ys _ _ under (right_within _ _) zs f path.new more m)
-          (λ why full. refused_up xs ys _ _ under (right_within _ _) zs why path.new full))
+      pub up : Forks (cond b beside e) (cond b e beside) → MatchResult r (Pathed xs zs whole) (Stopped xs zs whole)
+      up made = elim (cases_Bool b) [
+        | inl one ↦ subst (λ s. MatchResult r (Pathed xs zs s) (Stopped xs zs s)) (sym (on_one one ∙ folded_fork _ beyond under (grind (arith, stands)))) (MatchResult-weaker r
+            ((rw one at made) beyond under (taken there) (taken path.unfolds))
+            (λ f m. made_up xs ys _ _ under (right_within _ _) zs f path.new more m)
+            (λ why full. refused_up xs ys _ _ under (right_within _ _) zs why path.new full))
+        | inr zero ↦ subst (λ s. MatchResult r (Pathed xs zs s) (Stopped xs zs s)) (sym (on_zero zero ∙ folded_fork _ under beyond stands)) (MatchResult-weaker r
+            ((rw zero at made) under beyond (taken path.unfolds) (taken there))
+            (λ f m. made_up xs ys _ _ under (left_within _ _) zs f path.new more m)
+            (λ why full. refused_up xs ys _ _ under (left_within _ _) zs why path.new full))
+      ]
 
 -- the whole path
 pub prunes : (xs ys : List Vertex) (start first : Edge) (own : Bits → Bool) (row : Bits) (r : Result Edge Refusal) → Kept xs ys → ∥ Sound ys ∥₁ → length ys ≡ 2048

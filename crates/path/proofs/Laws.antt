@@ -19,11 +19,11 @@ use Rattle.tree.proofs.Stores.{routes_held, struck_hop}
 use Rattle.store.specs.Content.{Map, Told, present}
 use Rattle.graph.specs.Slots.{Unfolds}
 use Rattle.graph.specs.declared.vertex.Vertex.{Vertex}
-use Rattle.path.specs.declared.down.Spot.{Spot}
-use Rattle.path.specs.Descend.{SpotOf}
+use Rattle.graph.specs.declared.spot.Spot.{Spot}
+use Rattle.graph.specs.Descend.{SpotOf}
 use Rattle.path.specs.Shorter.{NextShorter}
 use Rattle.path.specs.Prune.{others}
-use Rattle.path.proofs.Descending.{is_leaf, forks_shape}
+use Rattle.graph.proofs.Descending.{is_leaf, forks_shape}
 
 over_take : (d : ℕ) (p : Bits) → d < length p → over (take d p) p ≡ true
 over_take d [] less = absurd (omega arith)

@@ -1,3 +1,3 @@
-pub mod Descending
+pub mod Downward
 pub mod Folding
 pub mod Laws

@@ -1,4 +1,3 @@
-pub mod Descend
 pub mod Shorter
 pub mod Prune
 pub mod PathLaws

@@ -11,8 +11,8 @@ use Rattle.tree.specs.StoreLaws.{hop_at}
 use Rattle.store.specs.Content.{Map, Told}
 use Rattle.graph.specs.Slots.{Unfolds}
 use Rattle.graph.specs.declared.vertex.Vertex.{Vertex}
-use Rattle.path.specs.declared.down.Spot.{Spot}
-use Rattle.path.specs.Descend.{SpotOf}
+use Rattle.graph.specs.declared.spot.Spot.{Spot}
+use Rattle.graph.specs.Descend.{SpotOf}
 use Rattle.path.specs.Shorter.{NextShorter}
 use Rattle.path.specs.Prune.{others}
 

@@ -1,73 +1,68 @@
 // Folding the graph back along a prefix's path: made bottom up, beside what the table has.
-ghost use Rattle.std.specs.Prelude.{◌≡◌, ◌<◌, [], ◌∷◌, ◌++◌, length, take, drop};
+ghost use Rattle.std.specs.Prelude.{◌≡◌, ◌<◌, [], ◌∷◌, ◌++◌, length, drop};
 ghost use Rattle.net.specs.Prefix.{row_of};
-ghost use Rattle.store.specs.Content.{Sound};
 ghost use Rattle.graph.specs.Calls.{Kept};
-ghost use Rattle.path.specs.Prune.{others, seen_from, owning, folding, Prunes, PrunesBelow};
+ghost use Rattle.path.specs.Prune.{others, others_from, owning, folding, Prunes, PrunesBelow};
 
 use graph::{Edge, Table};
 use net::Prefix;
 use refusal::Refusal;
 use store::Store;
 
-// Whether the node's child on this side has a route, other than the struck prefix's.
-fn stands<R: Store>(routes: &R, node: &Prefix, one: bool, struck: &Prefix) -> bool
-    ensures { Sound (R.Store.kept routes.now) (R.Store.content routes.now) → length (row_of node.now) < 128
-        → result ≡ others (R.Store.content routes.now).map (row_of struck.now) (row_of node.now ++ (one ∷ [])) }
-{
-    match node.child(one) {
-        Some(child) => child != *struck && routes.get(&child).is_some(),
-        None => false,
-    }
+// What a fold goes by: the standing routes, and the prefix whose own route is struck.
+#[derive(Drop)]
+struct Fold<'a, R> {
+    routes: &'a R,
+    struck: &'a Prefix,
 }
 
-// Whether a child of the node `depth` bits down the prefix's path has a route, other than the prefix's own.
-fn owns<R: Store>(routes: &R, prefix: &Prefix, depth: usize) -> bool
-    ensures { Sound (R.Store.kept routes.now) (R.Store.content routes.now) → depth < length (row_of prefix.now)
-        → result ≡ owning (seen_from (take depth (row_of prefix.now)) (others (R.Store.content routes.now).map (row_of prefix.now))) }
-{
-    let node = prefix.front(depth);
-    stands(routes, &node, false, prefix) || stands(routes, &node, true, prefix)
-}
+impl<R: Store> Fold<'_, R> {
+    // Whether the node's child on this side has a route, other than the struck one.
+    fn stands(&self, node: &Prefix, one: bool) -> bool
+        ensures { length (row_of node.now) < 128
+            → result ≡ others (R.content self.now.routes.now).map (row_of self.now.struck.now) (row_of node.now ++ (one ∷ [])) }
+    {
+        let routed = |child: Prefix| child != *self.struck && self.routes.get(&child).is_some();
+        node.child(one).is_some_and(routed)
+    }
 
-// Whether that node is a leaf: neither side branches, and no child has a route of its own.
-fn ends<R: Store>(routes: &R, prefix: &Prefix, depth: usize, below: Edge, beside: Edge) -> bool
-    ensures { Sound (R.Store.kept routes.now) (R.Store.content routes.now) → depth < length (row_of prefix.now)
-        → result ≡ folding (seen_from (take depth (row_of prefix.now)) (others (R.Store.content routes.now).map (row_of prefix.now))) below beside }
-{
-    below == Edge::End && beside == Edge::End && !owns(routes, prefix, depth)
-}
+    // Whether a child of the node `depth` bits down the path has such a route.
+    fn owns(&self, depth: usize) -> bool
+        ensures { depth < length (row_of self.now.struck.now)
+            → result ≡ owning (others_from (R.content self.now.routes.now).map (row_of self.now.struck.now) depth) }
+    {
+        let node = self.struck.front(depth);
+        self.stands(&node, false) || self.stands(&node, true)
+    }
 
-// From a node of the prefix's path, `depth` bits down.
-fn prune_below<R: Store>(
-    table: &mut Table,
-    routes: &R,
-    node: Edge,
-    prefix: &Prefix,
-    depth: usize,
-) -> Result<Edge, Refusal>
-    ensures kept { Kept table.old.slots table.new.slots }
-    ensures path { Sound (R.Store.kept routes.now) (R.Store.content routes.now)
-        → PrunesBelow table.old.slots table.new.slots node (seen_from (take depth (row_of prefix.now)) (others (R.Store.content routes.now).map (row_of prefix.now)))
-        (drop depth (row_of prefix.now)) result }
-{
-    if depth >= prefix.len() as usize {
-        return Ok(node);
+    // Whether that node is a leaf: neither side branches, and no child has a route of its own.
+    fn ends(&self, depth: usize, below: Edge, beside: Edge) -> bool
+        ensures { depth < length (row_of self.now.struck.now)
+            → result ≡ folding (others_from (R.content self.now.routes.now).map (row_of self.now.struck.now) depth) below beside }
+    {
+        below == Edge::End && beside == Edge::End && !self.owns(depth)
     }
-    if let Edge::End = node {
-        return Ok(Edge::End);
-    }
-    let bit = prefix.bit(depth);
-    let below = table.follow(node, bit);
-    let beside = table.follow(node, !bit);
-    let below = prune_below(table, routes, below, prefix, depth + 1)?;
-    if ends(routes, prefix, depth, below, beside) {
-        return Ok(Edge::End);
-    }
-    if bit {
-        table.fork(beside, below)
-    } else {
-        table.fork(below, beside)
+
+    // From a node of the path, `depth` bits down.
+    fn prune_below(&self, table: &mut Table, node: Edge, depth: usize) -> Result<Edge, Refusal>
+        ensures kept { Kept table.old.slots table.new.slots }
+        ensures path { PrunesBelow table.old.slots table.new.slots node (others_from (R.content self.now.routes.now).map (row_of self.now.struck.now) depth)
+            (drop depth (row_of self.now.struck.now)) result }
+    {
+        if depth >= self.struck.len() as usize {
+            return Ok(node);
+        }
+        if let Edge::End = node {
+            return Ok(Edge::End);
+        }
+        let bit = self.struck.bit(depth);
+        let below = table.follow(node, bit);
+        let beside = table.follow(node, !bit);
+        let below = self.prune_below(table, below, depth + 1)?;
+        if self.ends(depth, below, beside) {
+            return Ok(Edge::End);
+        }
+        table.fork_beside(bit, below, beside)
     }
 }
 
@@ -80,9 +75,12 @@ pub fn prune<R: Store>(
     prefix: &Prefix,
 ) -> Result<Edge, Refusal>
     ensures kept { Kept table.old.slots table.new.slots }
-    ensures pruned { Sound (R.Store.kept routes.now) (R.Store.content routes.now)
-        → Prunes table.old.slots table.new.slots start (others (R.Store.content routes.now).map (row_of prefix.now)) (row_of prefix.now) result }
+    ensures pruned { Prunes table.old.slots table.new.slots start (others (R.content routes.now).map (row_of prefix.now)) (row_of prefix.now) result }
 {
+    let fold = Fold {
+        routes,
+        struck: prefix,
+    };
     let start = table.lead(start);
-    prune_below(table, routes, start, prefix, 0)
+    fold.prune_below(table, start, 0)
 }

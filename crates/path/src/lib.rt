@@ -1,19 +1,15 @@
-// The path of a prefix: down the graph, up the routes, and folded back when its route is struck.
+// The path of a prefix: up the routes, and folded back when its route is struck.
 #![tactic(auto)]
 
 ghost use Rattle.path.specs.PathLaws.{PathLaws};
 
-mod down;
 mod fold;
 mod shorter;
 
-pub use down::{Spot, descend};
 pub use fold::prune;
 pub use shorter::next_shorter;
 
 // What the calls come to over the standing routes, as a contract, so that a check asks for its proof.
-pub fn path_laws_stand() -> u8
+pub fn path_laws_stand()
     ensures { PathLaws }
-{
-    0
-}
+{}

@@ -1,5 +1,5 @@
 -- The run of an edge, counted from edge 0 up. Assumes nothing.
-use Rattle.std.proofs.Common.{◌≡◌, ℕ, suc, ◌+◌, ◌-◌, ◌<◌, ◌≤◌, Bool, true, false, List, [], ◌∷◌, reverse, length, get_or, take, drop, sym, refl, ap, ◌∙◌, subst, ⊎_elim, true≢false, arith}
+use Rattle.std.proofs.Common.{◌≡◌, ℕ, suc, ◌+◌, ◌-◌, ◌<◌, ◌≤◌, Bool, true, false, List, [], ◌∷◌, reverse, length, get_or, take, drop, sym, refl, ap, ◌∙◌, ⊎_elim, true≢false, arith}
 use mathlib.Core.Bool.{beq, false≢true}
 use Rattle.std.proofs.lemmas.List.{take_more, drop_more, drop_all, reverse-append, length-reverse, get_or-reverse}
 use Rattle.std.proofs.lemmas.Bool.{cases_lt}
@@ -116,35 +116,39 @@ beq_differ false false h e = true≢false h
 beq_differ true false h e = true≢false e
 beq_differ false true h e = false≢true e
 
--- the same of a vertex's marks m, as the code reads them: x is the mark at j, y that at e
-module _ (i : Image) (v e m : ℕ) (is : m ≡ get_or i.marks (v - 1) 0) (within : e < edges_each i.stride) where
+-- an edge e of the vertex v, whose marks are m
+pub record AtEdge (i : Image) (v e m : ℕ) : Type 0 where
+  pub is : m ≡ get_or i.marks (v - 1) 0
+  pub within : e < edges_each i.stride
+
+-- the same of a vertex's marks, as the code reads them: x is the mark at j, y that at e
+module _ {i : Image} {v e m : ℕ} (edge : AtEdge i v e m) where
   at_place : (j : ℕ) (x : Bool) → j < edges_each i.stride → x ≡ mark m j → get_or (marks_of i v) j false ≡ x
-  at_place j x less h = mark_at (edges_each i.stride) (get_or i.marks (v - 1) 0) j less ∙ ap (λ n. mark n j) (sym is) ∙ sym h
+  at_place j x less h = mark_at (edges_each i.stride) (get_or i.marks (v - 1) 0) j less ∙ ap (λ n. mark n j) (sym edge.is) ∙ sym h
 
   as_long : length (marks_of i v) ≡ edges_each i.stride
   as_long = length_marks (edges_each i.stride) (get_or i.marks (v - 1) 0)
 
-  inside : (j : ℕ) → j < edges_each i.stride → j < length (marks_of i v)
-  inside j less = omega (arith, as_long)
+  inside : {j : ℕ} → j < edges_each i.stride → j < length (marks_of i v)
+  inside less = omega (arith, as_long)
 
   pub run_none : Counting (marks_of i v) e 0 0
-  run_none = count_none (marks_of i v) e (inside e within)
+  run_none = count_none (marks_of i v) e (inside edge.within)
 
-  module _ (j t : ℕ) (x y : Bool) (less : j < edges_each i.stride) (at_j : x ≡ mark m j) (at_e : y ≡ mark m e) (so_far : Counting (marks_of i v) e j t) where
-    pub run_same : beq x y ≡ true → Counting (marks_of i v) e (j + 1) (t + 1)
-    run_same h = count_same (marks_of i v) e (inside e within) j t (inside j less) (at_place j x less at_j ∙ beq_same x y h ∙ sym (at_place e y within at_e)) so_far
+  pub run_all : {j t : ℕ} → edges_each i.stride ≤ j → Counting (marks_of i v) e j t → t ≡ run (marks_of i v) e
+  run_all past so_far = count_all (marks_of i v) e (inside edge.within) _ _ (omega (arith, as_long)) so_far
+
+  module _ {j t : ℕ} {x y : Bool} (less : j < edges_each i.stride) (at_j : x ≡ mark m j) (at_e : y ≡ mark m e) (so_far : Counting (marks_of i v) e j t) where
+    pub run_same : {u : ℕ} → beq x y ≡ true → u ≡ t + 1 → Counting (marks_of i v) e (j + 1) u
+    run_same h is =
+        let same = at_place j x less at_j ∙ beq_same x y h ∙ sym (at_place e y edge.within at_e) in
+        rw is (count_same (marks_of i v) e (inside edge.within) j t (inside less) same so_far)
 
     differ : beq x y ≡ false → get_or (marks_of i v) j false ≡ get_or (marks_of i v) e false → ⊥
-    differ h k = beq_differ x y h (sym (at_place j x less at_j) ∙ k ∙ at_place e y within at_e)
+    differ h k = beq_differ x y h (sym (at_place j x less at_j) ∙ k ∙ at_place e y edge.within at_e)
 
-    pub run_other : j ≤ e → beq x y ≡ false → Counting (marks_of i v) e (j + 1) 0
-    run_other before h = count_other (marks_of i v) e (inside e within) j t (inside j less) before (differ h) so_far
+    pub run_other : {u : ℕ} → j ≤ e → beq x y ≡ false → u ≡ 0 → Counting (marks_of i v) e (j + 1) u
+    run_other before h is = rw is (count_other (marks_of i v) e (inside edge.within) j t (inside less) before (differ h) so_far)
 
     pub run_stop : e < j → beq x y ≡ false → t ≡ run (marks_of i v) e
-    run_stop past h = count_stop (marks_of i v) e (inside e within) j t (inside j less) past (differ h) so_far
-
-  pub run_all : (j t : ℕ) → edges_each i.stride ≤ j → Counting (marks_of i v) e j t → t ≡ run (marks_of i v) e
-  run_all j t past so_far = count_all (marks_of i v) e (inside e within) j t (omega (arith, as_long)) so_far
-
-  pub run_is : (j t u : ℕ) → u ≡ t → Counting (marks_of i v) e j t → Counting (marks_of i v) e j u
-  run_is j t u h = subst (Counting (marks_of i v) e j) (sym h)
+    run_stop past h = count_stop (marks_of i v) e (inside edge.within) j t (inside less) past (differ h) so_far

@@ -1,13 +1,13 @@
 -- What a reader of images holds and answers. Assumes nothing.
 --   image_of r              the image that the reader r holds
 --   no_image                what an empty reader holds: an image with no vertex
---   SetsUp e m s V i j r   what setting a reader up with the rows e and m, the stride s and V vertices answers and leaves, i before and j after
---   Walked i a .. r         r is what walking the image i by the address a answers, where own and leaves are the ghost members of the leaf store
+--   SetsUp e m s V i j r    what setting a reader up with the rows e and m, the stride s and V vertices answers and leaves, i before and j after
+--   Walked i a c r          r is what walking the image i by the address a answers, where c is what the leaf store holds
 use Rattle.std.specs.Prelude.{◌≡◌, ℕ, List, [], take, Some, None, Result, MatchResult}
 use Rattle.bits.specs.Rows.{Bits}
 use Rattle.refusal.specs.declared.Refusal.{Refusal}
 use Rattle.refusal.specs.declared.Refusal.TheVariants.{ImageBroken}
-use Rattle.store.specs.Content.{Told, Content, Sound}
+use Rattle.store.specs.Content.{Told, Content}
 use Rattle.image.specs.Image.{Image, image_walk}
 use Rattle.reader.specs.Rows.{rows_refusal}
 use Rattle.reader.specs.declared.reader.Reader.{Reader}
@@ -24,7 +24,7 @@ SetsUp edges marks s V i j r = MatchResult r
     (λ e. (rows_refusal edges marks s V ≡ Some e) × (j ≡ i))
 
 -- the leaf's length, and the entry of the address's first so many bits
-abbrev pub Walked : Image → Bits → Type 0 → Content → Result (ℕ × Told) Refusal → Type 0
-Walked i a own leaves r = MatchResult r
-    (λ x. (image_walk i a ≡ Some x.0) × (Sound own leaves → x.1 ≡ leaves.map (take x.0 a)))
+abbrev pub Walked : Image → Bits → Content → Result (ℕ × Told) Refusal → Type 0
+Walked i a leaves r = MatchResult r
+    (λ x. (image_walk i a ≡ Some x.0) × (x.1 ≡ leaves.map (take x.0 a)))
     (λ e. (image_walk i a ≡ None) × (e ≡ ImageBroken))

@@ -13,11 +13,9 @@ pub fn check_rows(
 ) -> Result<Stride, Refusal>
     ensures { RowsChecked edges.now marks.now stride vertices result }
 {
-    if stride < 1 || stride > 6 {
-        return Err(Refusal::Stride);
-    }
-    if vertices > edges.len() as u64 >> stride || vertices > marks.len() as u64 {
+    let stride = Stride::try_from(stride)?;
+    if vertices > edges.len() as u64 >> stride.bits || vertices > marks.len() as u64 {
         return Err(Refusal::ImageRows);
     }
-    Ok(Stride { bits: stride })
+    Ok(stride)
 }

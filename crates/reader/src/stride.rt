@@ -2,6 +2,8 @@
 ghost use Rattle.std.specs.Prelude.{◌≡◌, ◌≤◌};
 ghost use Rattle.image.specs.Image.{edges_each};
 
+use refusal::Refusal;
+
 #[derive(Clone, Copy)]
 pub struct Stride {
     pub(crate) bits: u64,
@@ -25,5 +27,21 @@ impl Stride {
         ensures most { result ≤ 64 }
     {
         1 << self.bits
+    }
+}
+
+// Refused: a number that is not 1 to 6.
+impl TryFrom<u64> for Stride {
+    type Error = Refusal;
+
+    ghost use Rattle.reader.specs.Rows.{StrideMade};
+
+    ghost try_from_gives = { StrideMade };
+
+    fn try_from(bits: u64) -> Result<Stride, Refusal> {
+        match bits {
+            1..=6 => Ok(Stride { bits }),
+            _ => Err(Refusal::Stride),
+        }
     }
 }

@@ -10,8 +10,8 @@ const GREATEST: u64 = 65_535;
 pub fn hop(number: u64) -> Result<u16, Refusal>
     ensures { Hops number result }
 {
-    if number == 0 || number > GREATEST {
-        return Err(Refusal::Hop);
+    match number {
+        1..=GREATEST => Ok(number as u16),
+        _ => Err(Refusal::Hop),
     }
-    Ok(number as u16)
 }

@@ -3,10 +3,12 @@
 
 mod hops;
 
-ghost use Rattle.std.specs.Prelude.{◌≡◌};
+ghost use Rattle.std.specs.Prelude.{◌≡◌, Some};
 ghost use Rattle.refusal.specs.Numbers.{number_of, word_of};
 
 pub use hops::hop;
+use std::error::Error;
+use std::fmt;
 
 #[derive(Clone, Copy, PartialEq, Eq, Debug)]
 pub enum Refusal {
@@ -28,6 +30,7 @@ pub enum Refusal {
 }
 
 impl Refusal {
+    // The table of numbers, and below that of words: other forms would call them.
     pub fn number(self) -> u8
         ensures { result ≡ number_of self }
     {
@@ -70,3 +73,14 @@ impl Refusal {
         }
     }
 }
+
+// It is printed as its word.
+impl fmt::Display for Refusal {
+    ghost output = { λ r. Some (word_of r) };
+
+    fn fmt<W: fmt::Write>(&self, f: &mut fmt::Formatter<W>) -> fmt::Result {
+        f.write_str(self.word())
+    }
+}
+
+impl Error for Refusal {}

@@ -7,13 +7,13 @@ use net::Family;
 use session::Session;
 use std::io;
 use std::io::{Read, Write};
-use store::{FlatRow, Lent, Slot, Store};
+use store::{FlatRow, Lent, Store};
 
 // Serves a family: a row of 512 slots holds the routes, and FNV buckets over another such row hold the leaves. Each line of the
 // input is answered on the output as it comes, until the input ends.
 pub fn serve<F: Family + Copy, I: Read, O: Write>(input: &mut I, output: &mut O) -> io::Result<()> {
-    let mut route_slots = [Slot::Free; 512];
-    let mut leaf_slots = [Slot::Free; 512];
+    let mut route_slots = [None; 512];
+    let mut leaf_slots = [None; 512];
     let mut routes = FlatRow::new(&mut route_slots);
     let mut leaves = Layer::new(Fnv, FlatRow::new(&mut leaf_slots));
     serve_with::<F, _, _, _, _>(&mut routes, &mut leaves, input, output)
@@ -28,17 +28,18 @@ fn serve_with<F: Family + Copy, R: Store, L: Store, I: Read, O: Write>(
     let mut session = Session::<F, Lent<R>, Lent<L>>::new(Lent::new(routes), Lent::new(leaves));
     let mut piece = [0u8; 4096];
     let mut row = [0u8; 4096];
+    // The count is only a bound, since a reader of unknown bytes may never end.
     for _ in 0..u64::MAX {
         let n = input.read(&mut piece)?;
         if n == 0 {
             break;
         }
-        answer(&mut session, &piece[0..n], &mut row, output)?;
+        answer(&mut session, &piece[..n], &mut row, output)?;
     }
-    match session.finish(&mut row) {
-        Ok(n) => output.write_all(&row[0..n]),
-        Err(_) => Ok(()),
+    if let Ok(n) = session.finish(&mut row) {
+        output.write_all(&row[..n])?;
     }
+    Ok(())
 }
 
 // Feeds a whole piece, and hands the replies on as the row fills.
@@ -48,12 +49,11 @@ fn answer<F: Family + Copy, R: Store, L: Store, O: Write>(
     row: &mut [u8; 4096],
     output: &mut O,
 ) -> io::Result<()> {
-    let mut from = 0;
-    while from < piece.len() {
-        let fed = session.feed(&piece[from..piece.len()], row);
-        let written = fed.written;
-        output.write_all(&row[0..written])?;
-        from += fed.taken;
+    let mut rest = piece;
+    while !rest.is_empty() {
+        let fed = session.feed(rest, row);
+        output.write_all(&row[..fed.written])?;
+        rest = &rest[fed.taken..];
     }
     Ok(())
 }

@@ -1,18 +1,18 @@
 -- What a session has heard, one byte after the other, to the end. Assumes nothing.
-use Rattle.std.proofs.Common.{◌≡◌, ℕ, zero, suc, List, [], ◌∷◌, ◌++◌, length, take, drop, sym, refl, ap, ◌∙◌, subst, arith}
+use Rattle.std.proofs.Common.{◌≡◌, ℕ, zero, suc, ◌≤◌, Result, Ok, Err, List, [], ◌∷◌, ◌++◌, length, take, drop, sym, refl, ap, ◌∙◌, subst, arith}
 use Rattle.std.proofs.lemmas.List.{append-nil, take_at}
+use Rattle.std.specs.Result.{result_unwrap_or}
+use Rattle.refusal.specs.declared.Refusal.{Refusal}
 use Rattle.tree.specs.Ledger as l
-use Rattle.store.specs.Content.{Content}
 use Rattle.engine.specs.Serves.{Ran}
-use Rattle.engine.specs.declared.engine.Engine.{Engine}
+use Rattle.engine.specs.State.{State}
 use Rattle.text.specs.Fields.{parted}
 use Rattle.text.specs.Lines.{lines}
 use Rattle.line.specs.Line.{read_line}
-use Rattle.line.specs.Reply.{shown, written}
-use Rattle.line.specs.Told.{line_calls, reading_turn, replies, reply_to, Told}
+use Rattle.line.specs.Reply.{written}
+use Rattle.line.specs.Told.{line_calls, reading_turn, replies, reply_to, Replied, RowKept, Told}
 use Rattle.line.proofs.Telling.{one_line_more, replies_join, front_read}
-use Rattle.session.specs.Session.{ended, unended, Heard, Over}
-use Rattle.session.specs.declared.session.Session.{Session}
+use Rattle.session.specs.Session.{ended, unended, Heard, Hearing, Over}
 use Rattle.session.proofs.Streams.{ended_other, unended_other, ended_feed, unended_feed, lines_ended, lines_unended}
 
 -- what is kept of a front is kept of the whole
@@ -25,25 +25,34 @@ none_kept : (u : List ℕ) → take 81 u ≡ [] → u ≡ []
 none_kept [] e = refl
 none_kept (x ∷ u) e = absurd (let z : ◌≡◌ {A = ℕ} 0 1 = cc in omega arith)
 
-module _ {F R L : Type 0} (g : l.Given) (kept_r : R → Type 0) (content_r : R → Content) (kept_l : L → Type 0) (content_l : L → Content) where
-  pub heard_starts : (s : Session F R L) → Ran g kept_r content_r kept_l content_l [] [] s.engine → shown s.line ≡ [] → Heard g kept_r content_r kept_l content_l [] [] s
+-- of what an answer's row says, the number of bytes, and none where the row is refused
+pub row_told : (r : Result ℕ Refusal) (n : ℕ) (before after : List ℕ) → n ≡ result_unwrap_or r 0 → RowKept before after r → (n ≤ length before) × (drop n after ≡ drop n before)
+row_told (Ok k) n before after e row = subst (λ (m : ℕ). (m ≤ length before) × (drop m after ≡ drop m before)) (sym e) (row.1, row.2)
+row_told (Err why) n before after e row = subst (λ (m : ℕ). (m ≤ length before) × (drop m after ≡ drop m before)) (sym e) (omega arith, row.2)
+
+pub reply_told : (r : Result ℕ Refusal) (n : ℕ) (bs before after : List ℕ) → n ≡ result_unwrap_or r 0 → Replied bs before after r → (n ≡ length bs) × (after ≡ bs ++ drop n before)
+reply_told (Ok k) n bs before after e reply = subst (λ (m : ℕ). (m ≡ length bs) × (after ≡ bs ++ drop m before)) (sym e) reply
+reply_told (Err why) n bs before after e reply = absurd reply
+
+module _ (g : l.Given) where
+  pub heard_starts : (s : Hearing) → Ran g [] [] s.engine → s.line ≡ [] → Heard g [] [] s
   unfolding parted
   heard_starts s r e = record { given = refl; told = r; kept = e }
 
   -- a byte that is no line feed
-  pub heard_byte : (input output : List ℕ) (s t : Session F R L) (b : ℕ) → (b ≡ 10 → ⊥) → t.engine ≡ s.engine → shown t.line ≡ take 81 (shown s.line ++ (b ∷ []))
-      → Heard g kept_r content_r kept_l content_l input output s → Heard g kept_r content_r kept_l content_l (input ++ (b ∷ [])) output t
+  pub heard_byte : (input output : List ℕ) (s t : Hearing) (b : ℕ) → (b ≡ 10 → ⊥) → t.engine ≡ s.engine → t.line ≡ take 81 (s.line ++ (b ∷ []))
+      → Heard g input output s → Heard g (input ++ (b ∷ [])) output t
   heard_byte input output s t b n same more h = record {
     given = h.given ∙ ap (replies g []) (sym (ended_other input b n));
-    told = subst (λ (ls : List (List ℕ)). Told g kept_r content_r kept_l content_l ls t.engine) (sym (ended_other input b n))
-        (subst (λ (e : Engine F R L). Told g kept_r content_r kept_l content_l (ended input) e) (sym same) h.told);
+    told = subst (λ (ls : List (List ℕ)). Told g ls t.engine) (sym (ended_other input b n))
+        (subst (λ (e : State). Told g (ended input) e) (sym same) h.told);
     kept = more ∙ ap (λ u. take 81 (u ++ (b ∷ []))) h.kept ∙ take_front 81 (unended input) (b ∷ []) ∙ ap (take 81) (sym (unended_other input b n));
   }
 
   -- a line feed: of the line that it ends, what was kept reads as the whole
-  pub heard_line : (input output : List ℕ) (s t : Session F R L) (line before after : List ℕ) (n : ℕ) → line ≡ shown s.line
-      → Told g kept_r content_r kept_l content_l (ended input ++ (line ∷ [])) t.engine → n ≡ length (reply_to g (ended input) line) → after ≡ reply_to g (ended input) line ++ drop n before
-      → shown t.line ≡ [] → Heard g kept_r content_r kept_l content_l input output s → Heard g kept_r content_r kept_l content_l (input ++ (10 ∷ [])) (output ++ take n after) t
+  pub heard_line : (input output : List ℕ) (s t : Hearing) (line before after : List ℕ) (n : ℕ) → line ≡ s.line
+      → Told g (ended input ++ (line ∷ [])) t.engine → n ≡ length (reply_to g (ended input) line) → after ≡ reply_to g (ended input) line ++ drop n before
+      → t.line ≡ [] → Heard g input output s → Heard g (input ++ (10 ∷ [])) (output ++ take n after) t
   heard_line input output s t line before after n is told long wrote none h =
       let reads : read_line g.width line ≡ read_line g.width (unended input) = ap (read_line g.width) (is ∙ h.kept) ∙ front_read g.width (unended input) in
       let calls : line_calls g.width (ended input ++ (line ∷ [])) ≡ line_calls g.width (ended (input ++ (10 ∷ []))) =
@@ -54,28 +63,28 @@ module _ {F R L : Type 0} (g : l.Given) (kept_r : R → Type 0) (content_r : R �
       let front : take n after ≡ reply_to g (ended input) (unended input) = ap (take n) wrote ∙ take_at (reply_to g (ended input) line) (drop n before) n (sym long) ∙ reply in
       record {
         given = ap (λ z. output ++ z) front ∙ ap (λ z. z ++ reply_to g (ended input) (unended input)) h.given ∙ sym (replies_join g [] (ended input) (unended input)) ∙ ap (replies g []) (sym (ended_feed input));
-        told = subst (λ (cs : List l.Call). Ran g kept_r content_r kept_l content_l cs (l.answers g [] cs) t.engine) calls told;
+        told = subst (λ (cs : List l.Call). Ran g cs (l.answers g [] cs) t.engine) calls told;
         kept = none ∙ ap (take 81) (sym (unended_feed input));
       }
 
   -- the end, right behind a line feed or at the beginning
-  pub over_ended : (input output : List ℕ) (s : Session F R L) → shown s.line ≡ [] → Heard g kept_r content_r kept_l content_l input output s
-      → Over g kept_r content_r kept_l content_l input (output ++ []) s
+  pub over_ended : (input output : List ℕ) (s : Hearing) → s.line ≡ [] → Heard g input output s
+      → Over g input (output ++ []) s
   over_ended input output s e h =
       let all : lines input ≡ ended input = lines_ended input (none_kept (unended input) (sym h.kept ∙ e)) in
       record {
         given = append-nil output ∙ h.given ∙ ap (replies g []) (sym all);
-        told = subst (λ (ls : List (List ℕ)). Told g kept_r content_r kept_l content_l ls s.engine) (sym all) h.told;
+        told = subst (λ (ls : List (List ℕ)). Told g ls s.engine) (sym all) h.told;
         kept = e;
       }
 
   -- the end ends a line
-  pub over_line : (input output : List ℕ) (s t : Session F R L) (more : List ℕ) → (shown s.line ≡ [] → ⊥) → Heard g kept_r content_r kept_l content_l input output s
-      → Heard g kept_r content_r kept_l content_l (input ++ (10 ∷ [])) (output ++ more) t → Over g kept_r content_r kept_l content_l input (output ++ more) t
+  pub over_line : (input output : List ℕ) (s t : Hearing) (more : List ℕ) → (s.line ≡ [] → ⊥) → Heard g input output s
+      → Heard g (input ++ (10 ∷ [])) (output ++ more) t → Over g input (output ++ more) t
   over_line input output s t more some h k =
       let all : lines input ≡ ended (input ++ (10 ∷ [])) = lines_unended input (λ e. some (h.kept ∙ ap (take 81) e)) ∙ sym (ended_feed input) in
       record {
         given = k.given ∙ ap (replies g []) (sym all);
-        told = subst (λ (ls : List (List ℕ)). Told g kept_r content_r kept_l content_l ls t.engine) (sym all) k.told;
+        told = subst (λ (ls : List (List ℕ)). Told g ls t.engine) (sym all) k.told;
         kept = k.kept ∙ ap (take 81) (unended_feed input);
       }

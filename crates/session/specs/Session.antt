@@ -1,17 +1,17 @@
 -- A session: an input that comes in pieces, cut anywhere, and the replies to its lines. Assumes nothing.
 --   ended bs            the lines of the input so far that a line feed has ended
 --   unended bs          what follows the last line feed
---   Heard g .. i o s    the session s was fed the bytes i in all, and has given out the bytes o in all:
+--   Hearing             what a session is to its callers: the state of its engine, and what it kept of the line that has not ended
+--   Heard g i o s       the session s was fed the bytes i in all, and has given out the bytes o in all:
 --                       o are the replies to the lines that i has ended, and the engine has made their calls
---   Over g .. i o s     the whole input was i, and all that was given out, o, are the replies to its lines, in order, by the ledger
+--   Over g i o s        the whole input was i, and all that was given out, o, are the replies to its lines, in order, by the ledger
 use Rattle.std.specs.Prelude.{◌≡◌, ℕ, List, [], ◌∷◌, take}
 use Rattle.text.specs.Fields.{parted}
 use Rattle.text.specs.Lines.{lines}
 use Rattle.tree.specs.Ledger.{Given}
-use Rattle.store.specs.Content.{Content}
-use Rattle.line.specs.Reply.{most_held, shown}
+use Rattle.engine.specs.State.{State}
+use Rattle.line.specs.Reply.{most_held}
 use Rattle.line.specs.Told.{replies, Told}
-use Rattle.session.specs.declared.session.Session.{Session}
 
 -- all parts but the last, and the last
 abbrev pub all_but_last : List (List ℕ) → List (List ℕ)
@@ -30,14 +30,18 @@ ended bs = all_but_last (parted 10 bs)
 abbrev pub unended : List ℕ → List ℕ
 unended bs = last_of (parted 10 bs)
 
-pub record Heard {F R L : Type 0} (g : Given) (kept_r : R → Type 0) (content_r : R → Content) (kept_l : L → Type 0) (content_l : L → Content) (input output : List ℕ) (s : Session F R L) : Type 0 where
+pub record Hearing : Type 0 where
+  pub engine : State
+  pub line : List ℕ
+
+pub record Heard (g : Given) (input output : List ℕ) (s : Hearing) : Type 0 where
   pub given : output ≡ replies g [] (ended input)
-  pub told : Told g kept_r content_r kept_l content_l (ended input) s.engine
+  pub told : Told g (ended input) s.engine
   -- of an unfinished line no more is kept than it takes to tell that it is too long
-  pub kept : shown s.line ≡ take most_held (unended input)
+  pub kept : s.line ≡ take most_held (unended input)
 
 -- the input has come to its end
-pub record Over {F R L : Type 0} (g : Given) (kept_r : R → Type 0) (content_r : R → Content) (kept_l : L → Type 0) (content_l : L → Content) (input output : List ℕ) (s : Session F R L) : Type 0 where
+pub record Over (g : Given) (input output : List ℕ) (s : Hearing) : Type 0 where
   pub given : output ≡ replies g [] (lines input)
-  pub told : Told g kept_r content_r kept_l content_l (lines input) s.engine
-  pub kept : shown s.line ≡ []
+  pub told : Told g (lines input) s.engine
+  pub kept : s.line ≡ []

@@ -5,12 +5,14 @@ ghost use Rattle.tree.specs.Ledger.{Given};
 ghost use Rattle.engine.specs.Calls.{given_by};
 ghost use Rattle.line.specs.Told.{least_row, RowKept};
 ghost use Rattle.session.specs.Session.{Heard, Over};
+ghost use Rattle.session.specs.Seen.{hearing};
 
 use crate::session::Session;
 use engine::Engine;
-use line::{Buffer, answer_line};
+use line::{Buffer, LEAST_ROW, answer_line};
 use net::Family;
 use refusal::Refusal;
+use std::mem;
 use store::Store;
 
 // How much of a piece was taken, and how many bytes of replies were written.
@@ -20,16 +22,13 @@ pub struct Fed {
     pub written: usize,
 }
 
-// Room for one reply.
-const ROOM: usize = 40;
-
 // What ends a line.
 const LINE_FEED: u8 = b'\n';
 
 impl<F: Family + Copy, R: Store, L: Store> Session<F, R, L> {
     // Sets an engine up over two stores, whatever they hold. Nothing was fed, and nothing given out.
     pub fn new(routes: R, leaves: L) -> Session<F, R, L>
-        ensures { Heard (given_by F.Family.wide (R.Store.content routes) (L.Store.content leaves)) R.Store.kept R.Store.content L.Store.kept L.Store.content [] [] result }
+        ensures { Heard (given_by F.W (R.content routes) (L.content leaves)) [] [] (hearing result) }
     {
         let line = Buffer::empty();
         Session {
@@ -45,22 +44,17 @@ impl<F: Family + Copy, R: Store, L: Store> Session<F, R, L> {
         ensures rest { drop result.written row.new ≡ drop result.written row.old }
         ensures all { ∥ ((result.taken ≡ length piece.now) ⊎ (length row.old < result.written + least_row)) ∥₁ }
         ensures onward { 0 < length piece.now → least_row ≤ length row.old → 0 < result.taken }
-        ensures heard { (g : Given) (input output : List ℕ) → g.width ≡ F.Family.wide →
-            Heard g R.Store.kept R.Store.content L.Store.kept L.Store.content input output self.old →
-            Heard g R.Store.kept R.Store.content L.Store.kept L.Store.content (input ++ take result.taken piece.now) (output ++ take result.written row.new) self.new }
+        ensures heard { (g : Given) (input output : List ℕ) → Heard g input output (hearing self.old) →
+            Heard g (input ++ take result.taken piece.now) (output ++ take result.written row.new) (hearing self.new) }
     {
         let mut written = 0;
-        for i in 0..piece.len() {
-            let b = piece[i];
-            if b != LINE_FEED {
-                self.line.push(b);
+        for (i, b) in piece.iter().enumerate() {
+            if *b != LINE_FEED {
+                self.line.push(*b);
+            } else if row.len() - written < LEAST_ROW {
+                return Fed { taken: i, written };
             } else {
-                let room = row.len() - written;
-                if room < ROOM {
-                    return Fed { taken: i, written };
-                }
-                let len = row.len();
-                written += self.end_line(&mut row[written..len]);
+                written += self.end_line(&mut row[written..]);
             }
         }
         Fed {
@@ -74,11 +68,10 @@ impl<F: Family + Copy, R: Store, L: Store> Session<F, R, L> {
     pub fn finish(&mut self, row: &mut [u8]) -> Result<usize, Refusal>
         ensures row { RowKept row.old row.new result }
         ensures short { length row.old < least_row → self.new ≡ self.old }
-        ensures over { (g : Given) (input output : List ℕ) → g.width ≡ F.Family.wide →
-            Heard g R.Store.kept R.Store.content L.Store.kept L.Store.content input output self.old →
-            IfOk result (λ n. Over g R.Store.kept R.Store.content L.Store.kept L.Store.content input (output ++ take n row.new) self.new) }
+        ensures over { (g : Given) (input output : List ℕ) → Heard g input output (hearing self.old) →
+            IfOk result (λ n. Over g input (output ++ take n row.new) (hearing self.new)) }
     {
-        if row.len() < ROOM {
+        if row.len() < LEAST_ROW {
             return Err(Refusal::AnswerRow);
         }
         if self.line.bytes().is_empty() {
@@ -91,15 +84,10 @@ impl<F: Family + Copy, R: Store, L: Store> Session<F, R, L> {
     fn end_line(&mut self, row: &mut [u8]) -> usize
         ensures within { result ≤ length row.old }
         ensures rest { drop result row.new ≡ drop result row.old }
-        ensures heard { (g : Given) (input output : List ℕ) → g.width ≡ F.Family.wide → least_row ≤ length row.old →
-            Heard g R.Store.kept R.Store.content L.Store.kept L.Store.content input output self.old →
-            Heard g R.Store.kept R.Store.content L.Store.kept L.Store.content (input ++ (10 ∷ [])) (output ++ take result row.new) self.new }
+        ensures heard { (g : Given) (input output : List ℕ) → least_row ≤ length row.old → Heard g input output (hearing self.old) →
+            Heard g (input ++ (10 ∷ [])) (output ++ take result row.new) (hearing self.new) }
     {
-        let line = self.line;
-        self.line = Buffer::empty();
-        match answer_line(&mut self.engine, line.bytes(), row) {
-            Ok(n) => n,
-            Err(_) => 0,
-        }
+        let line = mem::replace(&mut self.line, Buffer::empty());
+        answer_line(&mut self.engine, line.bytes(), row).unwrap_or(0)
     }
 }

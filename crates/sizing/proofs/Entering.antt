@@ -14,8 +14,5 @@ module _ (ys zs : List Vertex) (start : Edge) (t : Shape) (h : Unfolds ys start 
   kept : KeptOnly ys zs t
   kept = keeps t (taken h)
 
-  pub still_graph : Unfolds zs start t
-  still_graph = kept.whole start h
-
-  pub still_holds : Holds zs (shapes t)
-  still_holds = holds ys zs start t h kept
+  pub still : Unfolds zs start t × Holds zs (shapes t)
+  still = (kept.whole start h, holds ys zs start t h kept)

@@ -1,14 +1,17 @@
 -- How many nodes, leaves and branching nodes a tree has, and how many more once it is grown. Assumes nothing.
-use Rattle.std.proofs.Common.{◌≡◌, ℕ, ◌+◌, ◌-◌, ◌<◌, ◌≤◌, Bool, true, false, List, [], ◌∷◌, ◌++◌, length, get_or, drop, sym, refl, ap, ◌∙◌, arith, length-append, length-drop}
-use Rattle.std.proofs.lemmas.List.{drop_all, drop_more}
+use Rattle.std.proofs.Common.{◌≡◌, ℕ, zero, suc, ◌+◌, ◌-◌, ◌≤◌, true, false, List, [], ◌∷◌, ◌++◌, length, take, drop, sym, refl, ap, inl, inr, arith, length-append, length-drop}
+use Rattle.std.proofs.lemmas.List.{drop_all}
+use Rattle.std.proofs.lemmas.Bool.{true≢false}
+use mathlib.Core.Logic.{∥∥₁_elim}
+use denote.Struct.Props.{props}
 use Rattle.bits.specs.Rows.{Bits}
-use Rattle.tree.specs.Tree.{Shape, leaf, fork, grown, leaves, shapes}
-use Rattle.graph.specs.Slots.{next, led, Unfolds}
+use Rattle.tree.specs.Tree.{Shape, leaf, fork, has_node, shape_at, grown, leaves, shapes}
+use Rattle.graph.specs.Slots.{Sound}
+use Rattle.graph.specs.Descend.{SpotOf, Descends}
 use Rattle.graph.specs.declared.edge.Edge.{Edge}
-use Rattle.graph.specs.declared.edge.Edge.TheVariants.{End, To}
+use Rattle.graph.specs.declared.spot.Spot.{Spot}
 use Rattle.graph.specs.declared.vertex.Vertex.{Vertex}
-use Rattle.graph.proofs.Unfold.{led_unfolds}
-use Rattle.graph.proofs.Growing.{side, unfolds_side}
+use Rattle.graph.proofs.Unfold.{each_unfolds}
 use Rattle.sizing.specs.Census.{added, nodes}
 
 added_leaf : (p : Bits) → added p leaf ≡ length p
@@ -33,34 +36,20 @@ pub nodes_number : (t : Shape) → nodes t ≡ length (shapes t) + length (shape
 nodes_number leaf = omega arith
 nodes_number (fork l r) = omega (arith, nodes_number l, nodes_number r, length-append (shapes l) (shapes r))
 
--- the way down a prefix: d bits on, at this node, as much is missing as at the start
-abbrev pub Missing : List Vertex → Edge → Bits → ℕ → Edge → Type 0
-Missing xs start row d node = (t : Shape) → Unfolds xs start t → (s : Shape) × Unfolds xs node s × (added row t ≡ added (drop d row) s)
+-- a spot on the way down a prefix: what it lacks of the prefix is missing
+added_at : (t : Shape) (p : Bits) (d : ℕ) → has_node t (take d p) ≡ true → added p t ≡ added (drop d p) (shape_at t (take d p))
+added_at t p zero node = refl
+added_at t [] (suc d) node = refl
+added_at leaf (b ∷ p) (suc d) node = absurd (true≢false (sym node))
+added_at (fork l r) (false ∷ p) (suc d) node = added_at l p d node
+added_at (fork l r) (true ∷ p) (suc d) node = added_at r p d node
 
-added_side : (b : Bool) (p : Bits) (l r : Shape) → added (b ∷ p) (fork l r) ≡ added p (side b (fork l r))
-added_side false p l r = refl
-added_side true p l r = refl
+pub missing_at : (xs : List Vertex) (t : Shape) (p : Bits) (s : Spot) → SpotOf xs t p s → length p - s.depth ≡ added p t
+missing_at xs t p s spot = elim spot.stops [
+  | inl all ↦ omega (arith, added_at t p s.depth spot.node, ap (λ q. added q (shape_at t (take s.depth p))) (drop_all s.depth p (omega arith)))
+  | inr short ↦ omega (arith, added_at t p s.depth spot.node, ap (added (drop s.depth p)) short.1, added_leaf (drop s.depth p), length-drop s.depth p)
+]
 
-module _ (xs : List Vertex) (start : Edge) (row : Bits) where
-  pub missing_start : Missing xs start row 0 start
-  missing_start t h = (t, h, refl)
-
-  pub missing_next : (d n : ℕ) (node e : Edge) (b : Bool) → Missing xs start row d node → node ≡ To n → d < length row → b ≡ get_or row d false → e ≡ next xs (led xs node) b → Missing xs start row (d + 1) e
-  missing_next d n node e b here is less bit goes t h = go (here t h).0 (here t h).1 (here t h).2
-    where
-      down : (s : Shape) → Unfolds xs (To n) s → added (drop d row) s ≡ added (drop (d + 1) row) (side b s)
-      down leaf k = elim k [ ]
-      down (fork l r) k = rw (drop_more row d false less, ← bit) (added_side b (drop (d + 1) row) l r)
-
-      go : (s : Shape) → Unfolds xs node s → added row t ≡ added (drop d row) s → (s : Shape) × Unfolds xs e s × (added row t ≡ added (drop (d + 1) row) s)
-      go s k same = (side b s, rw (goes, led_unfolds k) (unfolds_side b k), same ∙ down s (rw is at k))
-
-  pub missing_end : (d : ℕ) (node : Edge) → Missing xs start row d node → node ≡ End → (t : Shape) → Unfolds xs start t → length row - d ≡ added row t
-  missing_end d node here is t h = go (here t h).0 (rw is at (here t h).1) (here t h).2
-    where
-      go : (s : Shape) → Unfolds xs End s → added row t ≡ added (drop d row) s → length row - d ≡ added row t
-      go leaf k same = omega (arith, same, added_leaf (drop d row), length-drop d row)
-      go (fork l r) k same = elim k [ ]
-
-  pub missing_none : (d : ℕ) (node : Edge) → Missing xs start row d node → length row ≤ d → (t : Shape) → Unfolds xs start t → 0 ≡ added row t
-  missing_none d node here past t h = sym ((here t h).2 ∙ ap (λ q. added q (here t h).0) (drop_all d row past))
+-- no spot lies deeper than the prefix
+pub spot_within : (xs : List Vertex) (start : Edge) (p : Bits) (s : Spot) → ∥ Sound xs ∥₁ → Descends xs start p s → s.depth ≤ length p
+spot_within xs start p s sound descends = ∥∥₁_elim (each_unfolds xs start sound) (hlevel props) λ (t, h). (descends t h).within

@@ -15,15 +15,8 @@ use refusal::Refusal;
 fn missing(table: &Table, start: Edge, prefix: &Prefix) -> u64
     ensures { (t : Shape) → Unfolds table.now.slots start t → result ≡ added (row_of prefix.now) t }
 {
-    let len = prefix.len() as usize;
-    let mut node = start;
-    for depth in 0..len {
-        if let Edge::End = node {
-            return (len - depth) as u64;
-        }
-        node = table.follow(node, prefix.bit(depth));
-    }
-    0
+    let spot = table.descend(start, prefix);
+    (prefix.len() as usize - spot.depth) as u64
 }
 
 impl Census {
@@ -43,29 +36,21 @@ impl Census {
         ensures { Entered self.old self.new (row_of prefix.now) result }
     {
         let more = missing(&self.table, self.start, prefix);
-        match self.table.grow(self.start, prefix) {
-            Ok(start) => {
-                self.table.keep_only(start);
-                self.start = start;
-                self.routes = self.routes.saturating_add(1);
-                self.forks = self.forks.saturating_add(more);
-                Ok(())
-            }
-            Err(why) => {
-                self.table.keep_only(self.start);
-                Err(why)
-            }
-        }
+        let grown = self.table.grow(self.start, prefix);
+        self.start = grown.unwrap_or(self.start);
+        self.table.keep_only(self.start);
+        grown?;
+        self.routes = self.routes.saturating_add(1);
+        self.forks = self.forks.saturating_add(more);
+        Ok(())
     }
 
     // The route of a line of a listing, unless the line is refused.
     pub fn enter_line(&mut self, line: &[u8]) -> Result<(), Refusal>
         ensures { Took self.old self.new (read_prefix line.now) result }
     {
-        match listing::prefix(line) {
-            Ok(prefix) => self.enter(&prefix),
-            Err(why) => Err(why),
-        }
+        let prefix = listing::prefix(line)?;
+        self.enter(&prefix)
     }
 
     pub fn summary(&self) -> Summary

@@ -13,17 +13,15 @@ use std::io::{BufRead, BufReader};
 
 fn main(rt: HostRuntime) -> io::Result<()> {
     let mut census = Census::new();
-    let mut number: u64 = 0;
-    for line in BufReader::new(rt.alloc(), rt.stdin())?.lines(rt.alloc()) {
+    let lines = BufReader::new(rt.alloc(), rt.stdin())?.lines(rt.alloc());
+    for (number, line) in (1_u64..).zip(lines) {
         let line = line?;
-        number = number.saturating_add(1);
         if line.is_empty() {
             rt.println(census.summary())?;
             census = Census::new();
         } else if let Err(why) = census.enter_line(line.as_bytes()) {
             rt.println(census.summary())?;
-            let word = why.word();
-            return println!(rt; "line {number}: {word}");
+            return println!(rt; "line {number}: {why}");
         }
     }
     rt.println(census.summary())

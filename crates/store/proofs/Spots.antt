@@ -2,75 +2,48 @@
 --   Of q s         the slot is free or holds the row q
 --   Site xs q i    slot i is the place to write an entry of the row q: it is free or holds q, and no other slot holds q
 --   Written        what the write of s at a site leaves, xs before and ys after
-use Rattle.std.proofs.Common.{◌≡◌, ℕ, zero, suc, ◌+◌, ◌<◌, ◌≤◌, true, false, cond, ◌&&◌, ◌≢◌, List, [], ◌∷◌, length, get_or, set, is_some, Some, None, Option, sym, refl, ap, ◌∙◌, subst, inl, inr, arith, get_or-set_other, get_or-set_same}
-use Rattle.std.proofs.lemmas.List.{get_or_read}
-use Rattle.std.proofs.lemmas.Bool.{cases_Bool, cases_eq, true≢false, both_ways}
+use Rattle.std.proofs.Common.{◌≡◌, ℕ, ◌+◌, ◌<◌, true, false, cond, ◌&&◌, ◌≢◌, List, length, set, Some, None, Option, sym, refl, ap, ◌∙◌, subst, inl, inr, arith, get_or-set_other, get_or-set_same}
+use Rattle.std.proofs.lemmas.Bool.{cases_Bool, cases_eq, cases_lt, true≢false, both_ways, lt-ltb, le-ltb}
+use Rattle.std.proofs.lemmas.List.{get_or_past, length-set}
+use Rattle.std.proofs.lemmas.List.Folds.{position_or_len-set}
+use Rattle.std.proofs.lemmas.List.Quantifiers.{position-Some}
+use Rattle.std.proofs.lemmas.List.Sums.{position_or_len_is, sum_by-set}
 use Rattle.bits.specs.Rows.{Bits, same}
 use Rattle.bits.proofs.Fronts.{same_self}
 use Rattle.bits.proofs.Tests.{same_is}
 use Rattle.net.specs.Prefix.{row_of}
-use Rattle.net.specs.declared.prefix.Prefix.{Prefix}
 use Rattle.store.specs.Content.{size}
-use Rattle.store.specs.Slots.{at, holds, told_by, taken, spot, told_at, told_in, used, Apart}
-use Rattle.store.specs.declared.slot.Slot.{Slot}
-use Rattle.store.specs.declared.slot.Slot.TheVariants.{Free, Taken}
+use Rattle.store.specs.Numbers.{spot_absent}
+use Rattle.store.specs.Slots.{Slot, at, holds, told_by, taken, spot, told_at, told_in, used, Apart}
+use Rattle.store.specs.declared.slot.Entry.{Entry}
 
 pub not_taken : (q : Bits) (s : Slot) → taken s ≡ false → holds q s ≡ false
-not_taken q Free e = refl
-not_taken q (Taken p h) e = absurd (true≢false e)
+not_taken q None e = refl
+not_taken q (Some t) e = absurd (true≢false e)
 
 -- the first slot that holds the row is its spot
 pub spot_first : (xs : List Slot) (q : Bits) (i : ℕ) → holds q (at xs i) ≡ true → ((k : ℕ) → k < i → holds q (at xs k) ≡ false) → spot xs q ≡ Some i
-spot_first [] q i h before = absurd (true≢false (sym h))
-spot_first (s ∷ xs) q zero h before = grind arith
-spot_first (s ∷ xs) q (suc i) h before =
-    let here = before 0 (omega arith) in
-    let ih = spot_first xs q i h (λ k l. before (suc k) (omega arith)) in
-    grind arith
-
--- the same, with the slot as a program reads it
-pub spot_read : (xs : List Slot) (q : Bits) (i : ℕ) (s : Slot) → i < length xs → s ≡ get_or xs i s → true ≡ holds q s → ((k : ℕ) → k < i → holds q (at xs k) ≡ false) → spot xs q ≡ Some i
-spot_read xs q i s l e h before = spot_first xs q i (ap (holds q) (sym (get_or_read xs i s l e Free)) ∙ sym h) before
+spot_first xs q i h before =
+    elim (cases_lt i (length xs)) [
+      | inl l ↦ (let first = position_or_len_is (holds q) xs i None (omega arith) before (λ _. h) in rw (first, lt-ltb i (length xs) l) refl)
+      | inr m ↦ absurd (true≢false (sym h ∙ ap (holds q) (get_or_past xs i None m)))
+    ]
 
 pub spot_none : (xs : List Slot) (q : Bits) → ((k : ℕ) → k < length xs → holds q (at xs k) ≡ false) → spot xs q ≡ None
-spot_none [] q none = refl
-spot_none (s ∷ xs) q none =
-    let here = none 0 (omega arith) in
-    let ih = spot_none xs q (λ k l. none (suc k) (omega arith)) in
-    grind arith
-
--- a spot holds its row
-pub spot_holds : (xs : List Slot) (q : Bits) (i : ℕ) → spot xs q ≡ Some i → (holds q (at xs i) ≡ true) × (i < length xs)
-spot_holds [] q i e = absurd (let z : ◌≡◌ {A = ℕ} 0 1 = cc in omega arith)
-spot_holds (s ∷ xs) q i e = elim (cases_Bool (holds q s)) [ inl h ↦ here h | inr h ↦ there h (spot_holds xs q) (spot xs q) refl ]
-  where
-    here : holds q s ≡ true → (holds q (at (s ∷ xs) i) ≡ true) × (i < length (s ∷ xs))
-    here h = let z : 0 ≡ i = grind arith in rw (← z) (h, omega arith)
-
-    there : holds q s ≡ false → ((j : ℕ) → spot xs q ≡ Some j → (holds q (at xs j) ≡ true) × (j < length xs)) → (o : Option ℕ) → spot xs q ≡ o → (holds q (at (s ∷ xs) i) ≡ true) × (i < length (s ∷ xs))
-    there h ih None f = absurd (let z : ◌≡◌ {A = ℕ} 0 1 = grind arith in omega arith)
-    there h ih (Some j) f =
-        let z : suc j ≡ i = grind arith in
-        let below = ih j f in
-        rw (← z) (below.0, omega arith)
-
-pub spot_absent : (xs : List Slot) (q : Bits) → spot xs q ≡ None → (i : ℕ) → holds q (at xs i) ≡ false
-spot_absent [] q e i = refl
-spot_absent (s ∷ xs) q e zero = grind arith
-spot_absent (s ∷ xs) q e (suc i) = let ih = spot_absent xs q in grind arith
+spot_none xs q none =
+    let past = position_or_len_is (holds q) xs (length xs) None (omega arith) none (λ l. absurd (omega arith)) in
+    rw (past, le-ltb (length xs) (length xs) (omega arith)) refl
 
 pub spot_is : (xs : List Slot) (q : Bits) (i : ℕ) → Apart xs → holds q (at xs i) ≡ true → spot xs q ≡ Some i
 spot_is xs q i apart h = go (spot xs q) refl
   where
     go : (o : Option ℕ) → spot xs q ≡ o → spot xs q ≡ Some i
     go None e = absurd (both_ways _ (spot_absent xs q e i) h)
-    go (Some j) e = e ∙ ap Some (apart q j i (spot_holds xs q j e).0 h)
+    go (Some j) e = e ∙ ap Some (apart q j i (position-Some (holds q) xs j None e).1 h)
 
 -- a write to a slot that did not hold the row and does not hold it now
 pub spot_other : (xs : List Slot) (i : ℕ) (s : Slot) (x : Bits) → holds x (at xs i) ≡ false → holds x s ≡ false → spot (set xs i s) x ≡ spot xs x
-spot_other [] i s x h k = refl
-spot_other (t ∷ xs) zero s x h k = grind arith
-spot_other (t ∷ xs) (suc i) s x h k = let ih = spot_other xs i s x h k in grind arith
+spot_other xs i s x h k = rw (position_or_len-set (holds x) xs i s None (k ∙ sym h), length-set) refl
 
 told_other : (xs : List Slot) (i : ℕ) (s : Slot) (x : Bits) → holds x (at xs i) ≡ false → holds x s ≡ false → told_in (set xs i s) x ≡ told_in xs x
 told_other xs i s x h k = ap (told_at (set xs i s)) (spot_other xs i s x h k) ∙ go (spot xs x) refl
@@ -78,76 +51,24 @@ told_other xs i s x h k = ap (told_at (set xs i s)) (spot_other xs i s x h k) �
     go : (o : Option ℕ) → spot xs x ≡ o → told_at (set xs i s) (spot xs x) ≡ told_at xs (spot xs x)
     go None e = rw e refl
     go (Some j) e =
-        let ne : j ≢ i = λ z. both_ways _ h (subst (λ n. holds x (at xs n) ≡ true) z (spot_holds xs x j e).0) in
-        rw e (ap told_by (get_or-set_other xs i j s Free ne))
-
-pub used_set : (xs : List Slot) (i : ℕ) (s : Slot) → i < length xs → used (set xs i s) + cond (taken (at xs i)) 1 0 ≡ used xs + cond (taken s) 1 0
-used_set [] i s l = absurd (omega arith)
-used_set (t ∷ xs) zero s l = omega arith
-used_set (t ∷ xs) (suc i) s l = let ih = used_set xs i s (omega arith) in omega arith
-
-pub used_most : (xs : List Slot) → used xs ≤ length xs
-used_most [] = omega arith
-used_most (s ∷ xs) = let ih = used_most xs in grind arith
-
--- past the end there is nothing
-pub at_past : (xs : List Slot) (i : ℕ) → length xs ≤ i → at xs i ≡ Free
-at_past [] i l = refl
-at_past (s ∷ xs) zero l = absurd (omega arith)
-at_past (s ∷ xs) (suc i) l = at_past xs i (omega arith)
-
--- a slot that tells something is there, and is taken
-pub told_inside : (xs : List Slot) (i : ℕ) → is_some (told_by (at xs i)) ≡ true → (i < length xs) × (taken (at xs i) ≡ true)
-told_inside [] i t = absurd (true≢false (sym t))
-told_inside (Free ∷ xs) zero t = absurd (true≢false (sym t))
-told_inside (Taken p h ∷ xs) zero t = (omega arith, refl)
-told_inside (s ∷ xs) (suc i) t = let ih = told_inside xs i t in (omega arith, ih.1)
-
--- a slot that holds a row is there, and is taken
-pub held_inside : (xs : List Slot) (q : Bits) (i : ℕ) → holds q (at xs i) ≡ true → (i < length xs) × (taken (at xs i) ≡ true)
-held_inside [] q i h = absurd (true≢false (sym h))
-held_inside (Free ∷ xs) q zero h = absurd (true≢false (sym h))
-held_inside (Taken p k ∷ xs) q zero h = (omega arith, refl)
-held_inside (s ∷ xs) q (suc i) h = let ih = held_inside xs q i h in (omega arith, ih.1)
-
--- to empty a slot that tells nothing changes nothing
-pub set_free : (xs : List Slot) (i : ℕ) → is_some (told_by (at xs i)) ≡ false → set xs i Free ≡ xs
-set_free [] i t = refl
-set_free (Free ∷ xs) zero t = refl
-set_free (Taken p h ∷ xs) zero t = absurd (true≢false t)
-set_free (s ∷ xs) (suc i) t = ap (λ ys. s ∷ ys) (set_free xs i t)
-
--- to empty a slot keeps rows apart
-pub free_apart : (xs : List Slot) (i : ℕ) → Apart xs → Apart (set xs i Free)
-free_apart xs i apart q j k h g = apart q j k (before j h) (before k g)
-  where
-    before : (k : ℕ) → holds q (at (set xs i Free) k) ≡ true → holds q (at xs k) ≡ true
-    before k h =
-        elim (cases_eq k i) [
-          | inl e ↦ absurd (both_ways _ (freed xs i) (subst (λ n. holds q (at (set xs i Free) n) ≡ true) e h))
-          | inr ne ↦ rw (← get_or-set_other xs i k Free Free ne) h
-        ]
-      where
-        freed : (xs : List Slot) (i : ℕ) → holds q (at (set xs i Free) i) ≡ false
-        freed [] i = refl
-        freed (s ∷ xs) zero = refl
-        freed (s ∷ xs) (suc i) = freed xs i
+        let ne : j ≢ i = λ z. both_ways _ h (subst (λ n. holds x (at xs n) ≡ true) z (position-Some (holds x) xs j None e).1) in
+        rw e (ap told_by (get_or-set_other xs i j s None ne))
 
 abbrev pub Of : Bits → Slot → Type 0
 Of q s = (x : Bits) → holds x s ≡ (taken s && same x q)
 
-pub of_free : (q : Bits) → Of q Free
+pub of_free : (q : Bits) → Of q None
 of_free q x = refl
 
-pub of_entry : (p : Prefix) (h : ℕ) → Of (row_of p) (Taken p h)
-of_entry p h x = grind arith
+pub of_entry : (e : Entry) → Of (row_of e.prefix) (Some e)
+of_entry e x = grind arith
 
 pub of_not_taken : (q : Bits) (s : Slot) → taken s ≡ false → Of q s
 of_not_taken q s e x = let n = not_taken x s e in grind arith
 
 pub of_held : (q : Bits) (s : Slot) → holds q s ≡ true → Of q s
-of_held q Free h x = refl
-of_held q (Taken p k) h x = let e = same_is q (row_of p) h in rw (← e) (grind arith)
+of_held q None h x = refl
+of_held q (Some t) h x = let e = same_is q (row_of t.prefix) h in rw (← e) (grind arith)
 
 pub record Site (xs : List Slot) (q : Bits) (i : ℕ) : Type 0 where
   pub inside : i < length xs
@@ -157,11 +78,11 @@ pub record Site (xs : List Slot) (q : Bits) (i : ℕ) : Type 0 where
 
 pub site_held : (xs : List Slot) (q : Bits) (i : ℕ) → Apart xs → spot xs q ≡ Some i → Site xs q i
 site_held xs q i apart e =
-    let h = spot_holds xs q i e in
+    let h = position-Some (holds q) xs i None e in
     record {
-      inside = h.1;
-      own = of_held q (at xs i) h.0;
-      alone = λ k ne. elim (cases_Bool (holds q (at xs k))) [ inl t ↦ absurd (ne (apart q k i t h.0)) | inr f ↦ f ];
+      inside = h.0;
+      own = of_held q (at xs i) h.1;
+      alone = λ k ne. elim (cases_Bool (holds q (at xs k))) [ inl t ↦ absurd (ne (apart q k i t h.1)) | inr f ↦ f ];
       apart = apart;
     }
 
@@ -183,8 +104,8 @@ module _ (xs : List Slot) (q : Bits) (i : ℕ) (site : Site xs q i) where
       none s e f k = elim (cases_eq k i) [ inl z ↦ rw (z, e) (not_taken q s f) | inr ne ↦ site.alone k ne ]
 
       go : (s : Slot) → at xs i ≡ s → told_in xs q ≡ told_by (at xs i)
-      go Free e = ap (told_at xs) (spot_none xs q (λ k _. none Free e refl k)) ∙ sym (ap told_by e)
-      go (Taken p h) e =
+      go None e = ap (told_at xs) (spot_none xs q (λ k _. none None e refl k)) ∙ sym (ap told_by e)
+      go (Some t) e =
           let own = site.own q in
           let me = same_self q in
           ap (told_at xs) (spot_is xs q i site.apart (own ∙ rw (e, me) refl))
@@ -193,15 +114,15 @@ module _ (xs : List Slot) (q : Bits) (i : ℕ) (site : Site xs q i) where
   size_site = ap size told_site ∙ sized (at xs i)
     where
       sized : (s : Slot) → size (told_by s) ≡ cond (taken s) 1 0
-      sized Free = refl
-      sized (Taken p h) = refl
+      sized None = refl
+      sized (Some t) = refl
 
   module _ (s : Slot) (of : Of q s) where
     here : at (set xs i s) i ≡ s
-    here = get_or-set_same xs i s Free site.inside
+    here = get_or-set_same xs i s None site.inside
 
     elsewhere : (k : ℕ) → k ≢ i → at (set xs i s) k ≡ at xs k
-    elsewhere k ne = get_or-set_other xs i k s Free ne
+    elsewhere k ne = get_or-set_other xs i k s None ne
 
     -- only the site can hold the row now
     only_here : (k : ℕ) → holds q (at (set xs i s) k) ≡ true → k ≡ i
@@ -240,8 +161,8 @@ module _ (xs : List Slot) (q : Bits) (i : ℕ) (site : Site xs q i) where
     write_tells = ap (told_at (set xs i s)) write_spot ∙ go s here
       where
         go : (t : Slot) → at (set xs i s) i ≡ t → told_at (set xs i s) (cond (taken t) (Some i) None) ≡ told_by t
-        go Free e = refl
-        go (Taken p h) e = ap told_by e
+        go None e = refl
+        go (Some t) e = ap told_by e
 
     pub written : Written xs q i s (set xs i s)
     written =
@@ -249,12 +170,12 @@ module _ (xs : List Slot) (q : Bits) (i : ℕ) (site : Site xs q i) where
           apart = write_apart;
           spots = λ x. elim (cases_Bool (same x q)) [ inl e ↦ (let z = same_is x q e in rw (z, same_self q) write_spot) | inr e ↦ rw e (spot_other xs i s x (clear (at xs i) site.own x e) (clear s of x e)) ];
           tells = λ x. elim (cases_Bool (same x q)) [ inl e ↦ (let z = same_is x q e in rw (z, same_self q) write_tells) | inr e ↦ rw e (told_other xs i s x (clear (at xs i) site.own x e) (clear s of x e)) ];
-          number = rw (size_site, sized s) (used_set xs i s site.inside);
+          number = rw (size_site, sized s) (sum_by-set (λ t. cond (taken t) 1 0) xs i s None site.inside);
         }
       where
         clear : (t : Slot) → Of q t → (x : Bits) → same x q ≡ false → holds x t ≡ false
         clear t o x e = let u = o x in grind arith
 
         sized : (s : Slot) → size (told_by s) ≡ cond (taken s) 1 0
-        sized Free = refl
-        sized (Taken p h) = refl
+        sized None = refl
+        sized (Some t) = refl

@@ -12,7 +12,7 @@
 --   Puts q h a b r      what setting the hop h for the row q answers and leaves
 --   Removes q a b t     what taking out the row q answers and leaves
 --   Empty c             the map has no row
---   Sound k c           a store of this content is sound, where k is what its kind asks on top
+--   Sound c             a store can have this content: as many rows as it says, and no more than it may
 use Rattle.std.specs.Prelude.{◌≡◌, ℕ, ◌+◌, ◌≤◌, Bool, cond, not, ◌&&◌, List, length, is_some, Some, None, Option, Result, MatchResult, ◌==◌}
 use Rattle.bits.specs.Lists.{any}
 use Rattle.bits.specs.Rows.{Bits, same}
@@ -72,8 +72,7 @@ pub record Empty (c : Content) : Type 0 where
   pub rows : (q : Bits) → c.map q ≡ absent
   pub number : c.held ≡ 0
 
-pub record Sound (own : Type 0) (c : Content) : Type 0 where
-  pub kept : own
+pub record Sound (c : Content) : Type 0 where
   pub within : c.held ≤ c.limit
   pub most : c.limit ≤ 16777216
   -- the number held is the number of rows in the map

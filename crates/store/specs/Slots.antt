@@ -1,4 +1,5 @@
 -- Slots, each free or with an entry, seen as a list. Assumes nothing.
+--   Slot             free, or with an entry
 --   at xs i          slot i, and a free one past the end
 --   holds q s        the slot s has an entry of the row q
 --   told_by s        what the slot tells of its row
@@ -9,37 +10,31 @@
 --   Frees xs r       r is the number of a free slot, or none where every slot has an entry
 --   Apart xs         no row is in two slots
 --   row_content xs   the content of a flat row over these slots
---   RowKept xs n    what a flat row asks of itself, where n is its count of entries
-use Rattle.std.specs.Prelude.{◌≡◌, ℕ, suc, ◌<◌, min, Bool, true, false, List, [], ◌∷◌, length, Some, None, Option, MatchOption, slice_index_or}
-use Rattle.bits.specs.Lists.{count}
+use Rattle.std.specs.Prelude.{◌≡◌, ℕ, ◌<◌, min, Bool, true, false, List, length, Some, None, Option, MatchOption, is_some, slice_index_or, count_by, position}
 use Rattle.bits.specs.Rows.{Bits, same}
 use Rattle.net.specs.Prefix.{row_of}
 use Rattle.store.specs.Content.{Told, absent, hop_told, Content}
-use Rattle.store.specs.declared.slot.Slot.{Slot}
-use Rattle.store.specs.declared.slot.Slot.TheVariants.{Free, Taken}
+use Rattle.store.specs.declared.slot.Entry.{Entry}
+
+abbrev pub Slot : Type 0
+Slot = Option Entry
 
 abbrev pub at : List Slot → ℕ → Slot
-at xs i = slice_index_or xs i Free
+at xs i = slice_index_or xs i None
 
 abbrev pub holds : Bits → Slot → Bool
-holds q Free = false
-holds q (Taken prefix hop) = same q (row_of prefix)
+holds q None = false
+holds q (Some e) = same q (row_of e.prefix)
 
 abbrev pub told_by : Slot → Told
-told_by Free = absent
-told_by (Taken prefix hop) = hop_told hop
+told_by None = absent
+told_by (Some e) = hop_told e.hop
 
 abbrev pub taken : Slot → Bool
-taken Free = false
-taken (Taken prefix hop) = true
-
-abbrev pub next : Option ℕ → Option ℕ
-next None = None
-next (Some i) = Some (suc i)
+taken s = is_some s
 
 abbrev pub spot : List Slot → Bits → Option ℕ
-spot [] q = None
-spot (s ∷ xs) q = elim (holds q s) [ true ↦ Some 0 | false ↦ next (spot xs q) ]
+spot xs q = position (holds q) xs
 
 abbrev pub told_at : List Slot → Option ℕ → Told
 told_at xs None = absent
@@ -49,7 +44,7 @@ abbrev pub told_in : List Slot → Bits → Told
 told_in xs q = told_at xs (spot xs q)
 
 abbrev pub used : List Slot → ℕ
-used xs = count taken xs
+used xs = count_by taken xs
 
 abbrev pub Frees : List Slot → Option ℕ → Type 0
 Frees xs r = MatchOption r ((i : ℕ) → i < length xs → taken (at xs i) ≡ true) (λ i. (i < length xs) × (taken (at xs i) ≡ false))
@@ -59,7 +54,3 @@ Apart xs = (q : Bits) (i j : ℕ) → holds q (at xs i) ≡ true → holds q (at
 
 abbrev pub row_content : List Slot → Content
 row_content xs = record { map = told_in xs; held = used xs; limit = min (length xs) 1048576 }
-
-pub record RowKept (xs : List Slot) (n : ℕ) : Type 0 where
-  pub apart : Apart xs
-  pub counted : n ≡ used xs

@@ -19,9 +19,9 @@ impl<'a, S: Store> Lent<'a, S> {
 }
 
 impl<S: Store> Store for Lent<'_, S> {
-    ghost content = { λ s. S.Store.content s.store.now };
+    ghost content = { λ s. S.content s.store.now };
 
-    ghost kept = { λ s. S.Store.kept s.store.now };
+    ghost sound = { λ s. S.sound s.store.now };
 
     fn get(&self, prefix: &Prefix) -> Option<u16> {
         self.store.get(prefix)

@@ -8,5 +8,5 @@ pub mod store;
 
 pub use flat::FlatRow;
 pub use lent::Lent;
-pub use slot::Slot;
+pub use slot::{Entry, Slot};
 pub use store::Store;

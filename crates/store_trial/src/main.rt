@@ -2,6 +2,7 @@
 // of the standard library, and counts the calls by kind and outcome. An answer that differs from the map's is counted as wrong.
 #![tactic(auto)]
 
+use bits::Halves;
 use chooser::{Fnv, Fold};
 use layer::Layer;
 use net::Prefix;
@@ -9,8 +10,9 @@ use random::Generator;
 use refusal::Refusal;
 use std::alloc::{AllocError, Global};
 use std::collections::BTreeMap;
-use std::io;
-use store::{FlatRow, Lent, Slot, Store};
+use std::{fmt, io};
+use store::{FlatRow, Lent, Store};
+use tally::Count;
 
 // A call on the prefix of a number.
 #[derive(Clone, Copy)]
@@ -28,28 +30,35 @@ struct Model {
     limit: u64,
 }
 
-#[derive(Drop)]
+#[derive(Clone, Copy, Default)]
 struct Tally {
-    got: u64,
-    got_none: u64,
-    put_new: u64,
-    replaced: u64,
-    bad_hop: u64,
-    full: u64,
-    removed: u64,
-    removed_none: u64,
-    cleared: u64,
-    wrong: u64,
+    got: Count,
+    got_none: Count,
+    put_new: Count,
+    replaced: Count,
+    bad_hop: Count,
+    full: Count,
+    removed: Count,
+    removed_none: Count,
+    cleared: Count,
+    wrong: Count,
 }
 
-fn more(count: &mut u64) {
-    *count = count.saturating_add(1);
+// A store beside its model, and what came of the calls so far.
+#[derive(Drop)]
+struct Trial<S> {
+    store: S,
+    model: Model,
+    tally: Tally,
 }
 
 // The prefix of a number: 24 bits that differ early and late.
 fn prefix_of(number: u64) -> Prefix {
-    let bits = number.wrapping_mul(0x9e37_79b9_7f4a_7c15);
-    Prefix::front_of(bits, number, 8 + (number % 100) as usize)
+    let bits = Halves {
+        first: number.wrapping_mul(0x9e37_79b9_7f4a_7c15),
+        second: number,
+    };
+    Prefix::front_of(bits, 8 + (number % 100) as usize)
 }
 
 fn draw_call(random: &mut Generator, prefixes: u64) -> Call {
@@ -65,119 +74,137 @@ fn draw_call(random: &mut Generator, prefixes: u64) -> Call {
     }
 }
 
-fn try_get<S: Store>(store: &S, model: &Model, tally: &mut Tally, number: u64) {
-    let answer = store.get(&prefix_of(number));
-    let expected = model.hops.get(&number).copied();
-    if answer != expected {
-        more(&mut tally.wrong);
-    } else if answer.is_some() {
-        more(&mut tally.got);
-    } else {
-        more(&mut tally.got_none);
-    }
-}
-
-fn try_put<S: Store>(
-    store: &mut S,
-    model: &mut Model,
-    tally: &mut Tally,
-    number: u64,
-    hop: u64,
-) -> Result<(), AllocError> {
-    let answer = store.put(&prefix_of(number), hop);
-    let held = model.hops.contains_key(&number);
-    if hop == 0 || hop > 65_535 {
-        match answer {
-            Err(Refusal::Hop) => more(&mut tally.bad_hop),
-            _ => more(&mut tally.wrong),
+impl Model {
+    // What a store should answer, and beside it the hop that was replaced.
+    fn put(&mut self, number: u64, hop: u64) -> Result<Result<Option<u16>, Refusal>, AllocError> {
+        let hop = match u16::try_from(hop) {
+            Ok(hop) if hop != 0 => hop,
+            _ => return Ok(Err(Refusal::Hop)),
+        };
+        if !self.hops.contains_key(&number) && self.held() == self.limit {
+            return Ok(Err(Refusal::StoreFull));
         }
-        return Ok(());
+        Ok(Ok(self.hops.insert(number, hop)?))
     }
-    if !held && model.hops.len() as u64 == model.limit {
-        match answer {
-            Err(Refusal::StoreFull) => more(&mut tally.full),
-            _ => more(&mut tally.wrong),
-        }
-        return Ok(());
-    }
-    model.hops.insert(number, hop as u16)?;
-    if answer.is_err() {
-        more(&mut tally.wrong);
-    } else if held {
-        more(&mut tally.replaced);
-    } else {
-        more(&mut tally.put_new);
-    }
-    Ok(())
-}
 
-fn try_remove<S: Store>(store: &mut S, model: &mut Model, tally: &mut Tally, number: u64) {
-    let answer = store.remove(&prefix_of(number));
-    let expected = model.hops.remove(&number);
-    if answer != expected {
-        more(&mut tally.wrong);
-    } else if answer.is_some() {
-        more(&mut tally.removed);
-    } else {
-        more(&mut tally.removed_none);
+    fn held(&self) -> u64 {
+        self.hops.len() as u64
     }
 }
 
-fn try_call<S: Store>(
-    store: &mut S,
-    model: &mut Model,
-    tally: &mut Tally,
-    call: Call,
-) -> Result<(), AllocError> {
-    match call {
-        Call::Get(number) => try_get(store, model, tally, number),
-        Call::Put(number, hop) => try_put(store, model, tally, number, hop)?,
-        Call::Remove(number) => try_remove(store, model, tally, number),
-        Call::Clear => {
-            store.clear();
-            model.hops.clear();
-            more(&mut tally.cleared);
+impl<S: Store> Trial<S> {
+    fn new(heap: Global, mut store: S) -> Trial<S> {
+        store.clear();
+        let limit = store.limit();
+        Trial {
+            store,
+            model: Model {
+                hops: BTreeMap::new(heap),
+                limit,
+            },
+            tally: Tally::default(),
         }
     }
-    if store.held() != model.hops.len() as u64 || store.limit() != model.limit {
-        more(&mut tally.wrong);
+
+    fn get(&mut self, number: u64) {
+        let answer = self.store.get(&prefix_of(number));
+        let expected = self.model.hops.get(&number).copied();
+        if answer != expected {
+            self.tally.wrong.more();
+        } else if answer.is_some() {
+            self.tally.got.more();
+        } else {
+            self.tally.got_none.more();
+        }
     }
-    Ok(())
+
+    fn put(&mut self, number: u64, hop: u64) -> Result<(), AllocError> {
+        let answer = self.store.put(&prefix_of(number), hop);
+        let expected = self.model.put(number, hop)?;
+        match (answer, expected) {
+            (Ok(()), Ok(None)) => self.tally.put_new.more(),
+            (Ok(()), Ok(Some(_))) => self.tally.replaced.more(),
+            (Err(Refusal::Hop), Err(Refusal::Hop)) => self.tally.bad_hop.more(),
+            (Err(Refusal::StoreFull), Err(Refusal::StoreFull)) => self.tally.full.more(),
+            _ => self.tally.wrong.more(),
+        }
+        Ok(())
+    }
+
+    // As `get`, with counts of its own: to pass the two counts would be no shorter.
+    fn remove(&mut self, number: u64) {
+        let answer = self.store.remove(&prefix_of(number));
+        let expected = self.model.hops.remove(&number);
+        if answer != expected {
+            self.tally.wrong.more();
+        } else if answer.is_some() {
+            self.tally.removed.more();
+        } else {
+            self.tally.removed_none.more();
+        }
+    }
+
+    fn clear(&mut self) {
+        self.store.clear();
+        self.model.hops.clear();
+        self.tally.cleared.more();
+    }
+
+    fn call(&mut self, call: Call) -> Result<(), AllocError> {
+        match call {
+            Call::Get(number) => self.get(number),
+            Call::Put(number, hop) => self.put(number, hop)?,
+            Call::Remove(number) => self.remove(number),
+            Call::Clear => self.clear(),
+        }
+        if self.store.held() != self.model.held() || self.store.limit() != self.model.limit {
+            self.tally.wrong.more();
+        }
+        Ok(())
+    }
+
+    // Makes the same calls as any other trial of the same seed, number of prefixes and number of calls.
+    fn calls(&mut self, seed: u64, prefixes: u64, calls: u64) -> Result<(), AllocError> {
+        let mut random = Generator::new(seed);
+        for _ in 0..calls {
+            self.call(draw_call(&mut random, prefixes))?;
+        }
+        Ok(())
+    }
 }
 
-// Makes the same calls as any other trial of the same seed, number of prefixes and number of calls.
-fn trial<S: Store>(
-    heap: Global,
-    store: &mut S,
-    seed: u64,
-    prefixes: u64,
-    calls: u64,
-) -> Result<Tally, AllocError> {
-    store.clear();
-    let mut model = Model {
-        hops: BTreeMap::new(heap),
-        limit: store.limit(),
-    };
-    let mut tally = Tally {
-        got: 0,
-        got_none: 0,
-        put_new: 0,
-        replaced: 0,
-        bad_hop: 0,
-        full: 0,
-        removed: 0,
-        removed_none: 0,
-        cleared: 0,
-        wrong: 0,
-    };
-    let mut random = Generator::new(seed);
-    for _ in 0..calls {
-        let call = draw_call(&mut random, prefixes);
-        try_call(store, &mut model, &mut tally, call)?;
+impl fmt::Display for Tally {
+    fn fmt<W: fmt::Write>(&self, f: &mut fmt::Formatter<W>) -> fmt::Result {
+        let Tally {
+            got,
+            got_none,
+            put_new,
+            replaced,
+            bad_hop,
+            full,
+            removed,
+            removed_none,
+            cleared,
+            wrong,
+        } = *self;
+        writeln!(f, "  get: {got} found, {got_none} none")?;
+        writeln!(
+            f,
+            "  put: {put_new} new, {replaced} replaced, {bad_hop} refused for the hop, {full} refused as full"
+        )?;
+        writeln!(
+            f,
+            "  remove: {removed} removed, {removed_none} none; clear: {cleared}"
+        )?;
+        // The other trial ends alike: a type for these two lines would be longer.
+        match wrong.number() {
+            0 => write!(f, "  all answers agreed"),
+            _ => write!(f, "  {wrong} answers differed"),
+        }
     }
-    Ok(tally)
 }
 
+// Any pile of stores serves, since it is lent.
 fn show<S: Store>(
     rt: &HostRuntime,
     name: &str,
@@ -185,43 +212,28 @@ fn show<S: Store>(
     prefixes: u64,
     calls: u64,
 ) -> io::Result<()> {
-    let tally = trial(rt.alloc(), store, 1804289383, prefixes, calls)?;
-    let limit = store.limit();
+    let mut trial = Trial::new(rt.alloc(), Lent::new(store));
+    trial.calls(1_804_289_383, prefixes, calls)?;
+    let limit = trial.model.limit;
+    let tally = trial.tally;
     println!(rt; "{name}, limit {limit}: {calls} calls on {prefixes} prefixes")?;
-    let got = tally.got;
-    let got_none = tally.got_none;
-    println!(rt; "  get: {got} found, {got_none} none")?;
-    let put_new = tally.put_new;
-    let replaced = tally.replaced;
-    let bad_hop = tally.bad_hop;
-    let full = tally.full;
-    println!(rt;
-        "  put: {put_new} new, {replaced} replaced, {bad_hop} refused for the hop, {full} refused as full"
-    )?;
-    let removed = tally.removed;
-    let removed_none = tally.removed_none;
-    let cleared = tally.cleared;
-    println!(rt; "  remove: {removed} removed, {removed_none} none; clear: {cleared}")?;
-    match tally.wrong {
-        0 => println!(rt; "  all answers agreed"),
-        wrong => println!(rt; "  {wrong} answers differed"),
-    }
+    println!(rt; "{tally}")
 }
 
 fn try_row(rt: &HostRuntime) -> io::Result<()> {
-    let mut slots = [Slot::Free; 24];
+    let mut slots = [None; 24];
     let mut row = FlatRow::new(&mut slots);
     show(rt, "row", &mut row, 40, 20_000)
 }
 
 fn try_layer(rt: &HostRuntime) -> io::Result<()> {
-    let mut slots = [Slot::Free; 24];
+    let mut slots = [None; 24];
     let mut one = Layer::new(Fnv, FlatRow::new(&mut slots));
     show(rt, "layer", &mut one, 40, 20_000)?;
     show(rt, "layer", &mut one, 1_300, 20_000)
 }
 
-// A second layer on whatever store is lent.
+// A second layer on whatever store is lent: the borrow checker takes no layer by value on a layer on a row.
 fn try_above<S: Store>(rt: &HostRuntime, lower: &mut S) -> io::Result<()> {
     let mut two = Layer::new(Fold, Lent::new(lower));
     show(rt, "pile", &mut two, 40, 20_000)?;
@@ -229,7 +241,7 @@ fn try_above<S: Store>(rt: &HostRuntime, lower: &mut S) -> io::Result<()> {
 }
 
 fn try_pile(rt: &HostRuntime) -> io::Result<()> {
-    let mut slots = [Slot::Free; 24];
+    let mut slots = [None; 24];
     let mut lower = Layer::new(Fnv, FlatRow::new(&mut slots));
     try_above(rt, &mut lower)
 }

@@ -1,6 +1,7 @@
 -- Decimal and hexadecimal digits, read from left to right. Assumes nothing.
-use Rattle.std.proofs.Common.{◌≡◌, ℕ, zero, suc, ◌+◌, ◌-◌, ◌*◌, ◌/◌, ◌%◌, ◌^◌, ◌<◌, ◌≤◌, true, false, cond, ◌⊎◌, List, [], ◌∷◌, ◌++◌, length, get_or, drop, Some, None, Option, sym, refl, ap, ◌∙◌, subst, mul_assoc, pow-suc, add-one, arith}
+use Rattle.std.proofs.Common.{◌≡◌, ℕ, zero, suc, ◌+◌, ◌-◌, ◌*◌, ◌/◌, ◌%◌, ◌^◌, ◌<◌, ◌≤◌, cond, ◌⊎◌, List, [], ◌∷◌, ◌++◌, length, get_or, drop, Some, None, Option, sym, refl, ap, ◌∙◌, subst, mul_assoc, pow-suc, add-one, arith}
 use native.Mathlib.Nat.{pow-le-pow_right}
+use Rattle.std.proofs.lemmas.Option.{none-some}
 use Rattle.std.proofs.lemmas.List.{append_assoc, append-nil, at_drop_more, at_drop_all, length-append}
 use Rattle.std.proofs.lemmas.Nat.{pow-add}
 use Rattle.std.proofs.lemmas.Bool.Decides.{nat_tests}
@@ -13,40 +14,40 @@ pub record Written (bs : List ℕ) (i n : ℕ) : Type 0 where
   pub rest : decimal_from n (drop i bs) ≡ decimal_from 0 bs
   pub small : n < 10 ^ i
 
-pub written_none : (bs : List ℕ) → Written bs 0 0
-written_none bs = record { rest = refl; small = omega arith }
-
 decimal_step : (bs : List ℕ) (i n : ℕ) → i < length bs
     → decimal_from n (drop i bs) ≡ cond (is_digit (get_or bs i 0)) (decimal_from (n * 10 + (get_or bs i 0 - 48)) (drop (i + 1) bs)) None
 unfolding decimal_from
 decimal_step bs i n h = at_drop_more (decimal_from n) bs i 0 h
 
-pub written_more : (bs : List ℕ) (i n : ℕ) → i < length bs → is_digit (get_or bs i 0) ≡ true → Written bs i n → Written bs (i + 1) (n * 10 + (get_or bs i 0 - 48))
-written_more bs i n h d w = record {
-  rest = sym (decimal_step bs i n h ∙ ap (λ t. cond t (decimal_from (n * 10 + (get_or bs i 0 - 48)) (drop (i + 1) bs)) None) d) ∙ w.rest;
+-- a byte is a digit of this value
+abbrev pub digit_of : ℕ → Option ℕ
+digit_of b = cond (is_digit b) (Some (b - 48)) None
+
+pub written_more : (bs : List ℕ) (i n d : ℕ) → i < length bs → digit_of (get_or bs i 0) ≡ Some d → Written bs i n → Written bs (i + 1) (n * 10 + d)
+written_more bs i n d h e w = record {
+  rest = sym (decimal_step bs i n h ∙ chosen (get_or bs i 0) e (λ d. decimal_from (n * 10 + d) (drop (i + 1) bs))) ∙ w.rest;
   small =
       let k : 10 ^ (i + 1) ≡ 10 ^ i * 10 = ap (λ m. 10 ^ m) (add-one i) ∙ pow-suc 10 i in
       let s = w.small in
-      let top : get_or bs i 0 ≤ 57 = digit_top (get_or bs i 0) d in
+      let top : d ≤ 9 = digit_top (get_or bs i 0) e in
       rw k (omega arith);
 }
   where
-    digit_top : (b : ℕ) → is_digit b ≡ true → b ≤ 57
+    chosen : (b : ℕ) → digit_of b ≡ Some d → (f : ℕ → Option ℕ) → cond (is_digit b) (f (b - 48)) None ≡ f d
+    chosen b e f = grind (arith, nat_tests)
+
+    digit_top : (b : ℕ) → digit_of b ≡ Some d → d ≤ 9
     digit_top b e = grind (arith, nat_tests)
 
-pub written_bad : (bs : List ℕ) (i n : ℕ) → i < length bs → is_digit (get_or bs i 0) ≡ false → Written bs i n → None ≡ decimal_from 0 bs
-written_bad bs i n h d w = sym (decimal_step bs i n h ∙ ap (λ t. cond t (decimal_from (n * 10 + (get_or bs i 0 - 48)) (drop (i + 1) bs)) None) d) ∙ w.rest
+pub written_bad : (bs : List ℕ) (i n : ℕ) → i < length bs → digit_of (get_or bs i 0) ≡ None → Written bs i n → None ≡ decimal_from 0 bs
+written_bad bs i n h e w = sym (decimal_step bs i n h ∙ lost (get_or bs i 0) e (λ d. decimal_from (n * 10 + d) (drop (i + 1) bs))) ∙ w.rest
+  where
+    lost : (b : ℕ) → digit_of b ≡ None → (f : ℕ → Option ℕ) → cond (is_digit b) (f (b - 48)) None ≡ None
+    lost b e f = grind (arith, nat_tests)
 
 pub written_all : (bs : List ℕ) (i n : ℕ) → length bs ≤ i → Written bs i n → Some n ≡ decimal_from 0 bs
 unfolding decimal_from
 written_all bs i n h w = sym (at_drop_all (decimal_from n) bs i h) ∙ w.rest
-
--- there is room for one digit more
-pub written_room : (bs : List ℕ) (i n : ℕ) → i < 5 → Written bs i n → n < 10000
-written_room bs i n h w =
-    let m : 10 ^ i ≤ 10 ^ 4 = pow-le-pow_right {n = 10} (omega arith) {i = i} {j = 4} (omega arith) in
-    let s = w.small in
-    omega arith
 
 -- where a field is well sized
 module _ (bs : List ℕ) (few : length bs ≤ 5) (some : length bs ≡ 0 → ⊥) (lead : (get_or bs 0 0 ≡ 48 → ⊥) ⊎ (length bs ≤ 1)) where
@@ -154,9 +155,6 @@ hex_append (b ∷ xs) ys = ap (joined (hex_digit b)) (hex_append xs ys) ∙ grou
 pub hex_room : (bs : List ℕ) (i n : ℕ) → i < 16 → HexWritten bs i n → n < 2 ^ 60
 hex_room bs i n h w = let m : 2 ^ (4 * i) ≤ 2 ^ 60 = pow-le-pow_right {n = 2} (omega arith) {i = 4 * i} {j = 60} (omega arith) in let s = w.small in omega arith
 
-none_some : {A : Type 0} {x : A} → None ≡ Some x → ⊥
-none_some e = let z : ◌≡◌ {A = ℕ} 0 1 = cc in omega arith
-
 -- four bits for each digit
 pub hex_length : (bs : List ℕ) (q : Bits) → hex_row bs ≡ Some q → length q ≡ 4 * length bs
 unfolding hex_row
@@ -164,9 +162,9 @@ hex_length [] q e = let z : [] ≡ q = cc in sym (ap length z)
 hex_length (b ∷ bs) q e = go (hex_digit b) (hex_row bs) (λ p. hex_length bs p) e
   where
     go : (d : Option ℕ) (o : Option Bits) → ((p : Bits) → o ≡ Some p → length p ≡ 4 * length bs) → joined d o ≡ Some q → length q ≡ 4 * suc (length bs)
-    go None None ih f = absurd (none_some f)
-    go None (Some p) ih f = absurd (none_some f)
-    go (Some d) None ih f = absurd (none_some f)
+    go None None ih f = absurd (none-some _ f)
+    go None (Some p) ih f = absurd (none-some _ f)
+    go (Some d) None ih f = absurd (none-some _ f)
     go (Some d) (Some p) ih f =
         let z : word 4 d ++ p ≡ q = cc in
         let long = ih p refl in

@@ -1,57 +1,26 @@
 -- The first mark among bytes, found from left to right, and the parts between marks. Assumes nothing.
-use Rattle.std.proofs.Common.{◌≡◌, ℕ, suc, ◌+◌, ◌-◌, ◌<◌, ◌≤◌, Bool, true, false, cond, eqb, List, [], ◌∷◌, length, get_or, take, drop, Some, None, Option, sym, refl, ap, ◌∙◌, subst, add-zero, zero-add, arith}
-use Rattle.std.proofs.lemmas.List.{at_drop_more, at_drop_all, drop_all, take_rest}
-use Rattle.std.proofs.lemmas.Bool.{eq-eqb, ne_eqb}
+use Rattle.std.proofs.Common.{◌≡◌, ℕ, suc, ◌+◌, ◌-◌, ◌≤◌, Bool, true, false, cond, eqb, ltb, List, [], ◌∷◌, length, take, drop, Some, None, Option, sym, refl, ap, ◌∙◌, subst, arith}
+use Rattle.std.proofs.lemmas.Option.{none-some}
+use Rattle.std.proofs.lemmas.List.{drop_all, take_rest}
+use Rattle.std.proofs.lemmas.Bool.Decides.{nat_tests}
+use Rattle.std.specs.List.{position_or_len}
 use Rattle.text.specs.Fields.{one_more, first_of, moved, end_of_line, in_front, parted}
 
--- a place, counted from i on
-abbrev pub from : ℕ → Option ℕ → Option ℕ
-from i None = None
-from i (Some k) = Some (i + k)
-
--- no mark stands before place i
-abbrev pub Passed : ℕ → List ℕ → ℕ → Type 0
-Passed m bs i = from i (first_of m (drop i bs)) ≡ first_of m bs
-
-pub passed_none : (m : ℕ) (bs : List ℕ) → Passed m bs 0
-passed_none m bs = go (first_of m bs)
-  where
-    go : (o : Option ℕ) → from 0 o ≡ o
-    go None = refl
-    go (Some k) = rw zero-add refl
-
-module _ (m : ℕ) (bs : List ℕ) (i : ℕ) (h : i < length bs) (p : Passed m bs i) where
-  step : first_of m (drop i bs) ≡ cond (eqb (get_or bs i 0) m) (Some 0) (one_more (first_of m (drop (i + 1) bs)))
-  unfolding first_of
-  step = at_drop_more (first_of m) bs i 0 h
-
-  pub passed_found : get_or bs i 0 ≡ m → Some i ≡ first_of m bs
-  passed_found e = ap Some (sym (add-zero i)) ∙ sym (ap (from i) (step ∙ ap (λ t. cond t (Some 0) (one_more (first_of m (drop (i + 1) bs)))) (eq-eqb _ _ e))) ∙ p
-
-  pub passed_more : (get_or bs i 0 ≡ m → ⊥) → Passed m bs (i + 1)
-  passed_more n = go (first_of m (drop (i + 1) bs)) ∙ sym (ap (from i) (step ∙ ap (λ t. cond t (Some 0) (one_more (first_of m (drop (i + 1) bs)))) (ne_eqb _ _ n))) ∙ p
-    where
-      go : (o : Option ℕ) → from (i + 1) o ≡ from i (one_more o)
-      go None = refl
-      go (Some k) = let e : i + 1 + k ≡ i + suc k = omega arith in ap Some e
-
-pub passed_all : (m : ℕ) (bs : List ℕ) (i : ℕ) → length bs ≤ i → Passed m bs i → None ≡ first_of m bs
+pub first_is : (m : ℕ) (bs : List ℕ) → cond (ltb (position_or_len (λ b. eqb b m) bs) (length bs)) (Some (position_or_len (λ b. eqb b m) bs)) None ≡ first_of m bs
 unfolding first_of
-passed_all m bs i h p = sym (ap (from i) (at_drop_all (first_of m) bs i h)) ∙ p
-
-none_some : (i : ℕ) → None ≡ Some i → ⊥
-none_some i e = let z : ◌≡◌ {A = ℕ} 0 1 = cc in omega arith
+first_is m [] = refl
+first_is m (b ∷ bs) = let ih = first_is m bs in grind (arith, nat_tests)
 
 -- where the first mark stands, the first part ends
 pub parted_at : (m : ℕ) (bs : List ℕ) (i : ℕ) → first_of m bs ≡ Some i → parted m bs ≡ take i bs ∷ parted m (drop (i + 1) bs)
 unfolding first_of parted
-parted_at m [] i e = absurd (none_some i e)
+parted_at m [] i e = absurd (none-some i e)
 parted_at m (b ∷ bs) i e = go (eqb b m) (first_of m bs) (λ k. parted_at m bs k) e
   where
     go : (t : Bool) (o : Option ℕ) → ((k : ℕ) → o ≡ Some k → parted m bs ≡ take k bs ∷ parted m (drop (k + 1) bs)) → cond t (Some 0) (one_more o) ≡ Some i
         → cond t ([] ∷ parted m bs) (in_front b (parted m bs)) ≡ take i (b ∷ bs) ∷ parted m (drop (i + 1) (b ∷ bs))
     go true o ih f = let z : 0 ≡ i = cc in subst (λ j. [] ∷ parted m bs ≡ take j (b ∷ bs) ∷ parted m (drop (j + 1) (b ∷ bs))) z refl
-    go false None ih f = absurd (none_some i f)
+    go false None ih f = absurd (none-some i f)
     go false (Some k) ih f =
         let z : suc k ≡ i = cc in
         let s : suc k + 1 ≡ suc (k + 1) = omega arith in
@@ -63,9 +32,9 @@ parted_none m [] e = refl
 parted_none m (b ∷ bs) e = go (eqb b m) (first_of m bs) (parted_none m bs) e
   where
     go : (t : Bool) (o : Option ℕ) → (o ≡ None → parted m bs ≡ bs ∷ []) → cond t (Some 0) (one_more o) ≡ None → cond t ([] ∷ parted m bs) (in_front b (parted m bs)) ≡ (b ∷ bs) ∷ []
-    go true o ih f = absurd (none_some 0 (sym f))
+    go true o ih f = absurd (none-some 0 (sym f))
     go false None ih f = ap (in_front b) (ih refl)
-    go false (Some k) ih f = absurd (none_some (suc k) (sym f))
+    go false (Some k) ih f = absurd (none-some (suc k) (sym f))
 
 -- the end of the line that begins at place k
 pub end_past : (bs : List ℕ) (k : ℕ) → length bs ≤ k → length bs ≡ end_of_line bs k

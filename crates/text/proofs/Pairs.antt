@@ -1,11 +1,11 @@
 -- A hexadecimal field, read as two words. Assumes nothing.
 use Rattle.std.proofs.Common.{◌≡◌, ℕ, ◌+◌, ◌-◌, ◌*◌, ◌≤◌, min, false, cond, leb, ◌⊎◌, List, [], ◌++◌, length, take, drop, replicate, Some, None, sym, refl, ap, ◌∙◌, inl, inr, arith}
-use Rattle.std.proofs.lemmas.List.{append_assoc, append-nil, length-append, length-take, length-drop, take-append-drop, take_rest, nil_from_length, replicate-append-replicate}
+use Rattle.std.proofs.lemmas.List.{append_assoc, append-nil, length-append, length-take, length-drop, take-append-drop, nil_from_length, replicate-append-replicate}
 use Rattle.std.proofs.lemmas.Bool.{le-leb, cases_lt}
 use Rattle.bits.specs.Rows.{Bits, padded, word}
-use Rattle.bits.proofs.Words.{length_word}
+use Rattle.bits.specs.declared.halves.Halves.{Halves}
 use Rattle.text.specs.Fields.{hex_row, Holds}
-use Rattle.text.proofs.Digits.{both, hex_append}
+use Rattle.text.proofs.Digits.{both, hex_append, hex_length}
 
 -- two rows filled up to words, where the first is whole or the second has no bit
 two_padded : (p q : Bits) → length p ≤ 64 → (length p ≡ 64) ⊎ (q ≡ []) → padded 64 p ++ padded 64 q ≡ padded 128 (p ++ q)
@@ -19,39 +19,28 @@ two_padded p q h (inr e) =
 
 -- the field is within bounds, and its parts are those before and behind the place k
 module _ (bs : List ℕ) (k : ℕ) (h : length bs ≤ 32) where
-  parts : cond (leb (length bs) 32) (hex_row bs) None ≡ both (hex_row (take (k - 0) bs)) (hex_row (take (length bs - k) (drop k bs)))
-  parts =
-      let zero : k - 0 ≡ k = omega arith in
-      ap (λ t. cond t (hex_row bs) None) (le-leb (length bs) 32 h) ∙ ap hex_row (sym (take-append-drop k bs)) ∙ hex_append (take k bs) (drop k bs)
-      ∙ ap (λ m. both (hex_row (take m bs)) (hex_row (drop k bs))) (sym zero)
-      ∙ ap (λ r. both (hex_row (take (k - 0) bs)) (hex_row r)) (sym (take_rest bs k))
+  parts : cond (leb (length bs) 32) (hex_row bs) None ≡ both (hex_row (take k bs)) (hex_row (drop k bs))
+  parts = ap (λ t. cond t (hex_row bs) None) (le-leb (length bs) 32 h) ∙ ap hex_row (sym (take-append-drop k bs)) ∙ hex_append (take k bs) (drop k bs)
 
-  pub first_bad : hex_row (take (k - 0) bs) ≡ None → Holds (cond (leb (length bs) 32) (hex_row bs) None) None
-  first_bad e = rw (parts ∙ ap (λ o. both o (hex_row (take (length bs - k) (drop k bs)))) e) tt
+  pub first_bad : hex_row (take k bs) ≡ None → Holds (cond (leb (length bs) 32) (hex_row bs) None) None
+  first_bad e = rw (parts ∙ ap (λ o. both o (hex_row (drop k bs))) e) tt
 
-  pub second_bad : (p : Bits) → hex_row (take (k - 0) bs) ≡ Some p → hex_row (take (length bs - k) (drop k bs)) ≡ None → Holds (cond (leb (length bs) 32) (hex_row bs) None) None
-  second_bad p e f = rw (parts ∙ ap (λ o. both o (hex_row (take (length bs - k) (drop k bs)))) e ∙ ap (both (Some p)) f) tt
+  pub second_bad : (p : Bits) → hex_row (take k bs) ≡ Some p → hex_row (drop k bs) ≡ None → Holds (cond (leb (length bs) 32) (hex_row bs) None) None
+  second_bad p e f = rw (parts ∙ ap (λ o. both o (hex_row (drop k bs))) e ∙ ap (both (Some p)) f) tt
 
-  pub both_good : (a b x y : ℕ) → k ≡ min (length bs) 16
-      → hex_row (take (k - 0) bs) ≡ Some (word (4 * length (take (k - 0) bs)) a)
-      → hex_row (take (length bs - k) (drop k bs)) ≡ Some (word (4 * length (take (length bs - k) (drop k bs))) b)
-      → word 64 x ≡ padded 64 (word (4 * k) a) → word 64 y ≡ padded 64 (word (4 * (length bs - k)) b)
-      → Holds (cond (leb (length bs) 32) (hex_row bs) None) (Some (x, y))
-  both_good a b x y m e f g i =
-      let fore : length (take (k - 0) bs) ≡ k = simp length-take (omega arith) in
-      let aft : length (take (length bs - k) (drop k bs)) ≡ length bs - k = simp (length-take, length-drop) (omega arith) in
-      let found : cond (leb (length bs) 32) (hex_row bs) None ≡ Some (word (4 * k) a ++ word (4 * (length bs - k)) b) =
-      parts ∙ ap (λ o. both o (hex_row (take (length bs - k) (drop k bs)))) e ∙ ap (both (Some (word (4 * length (take (k - 0) bs)) a))) f
-      ∙ ap (λ n. Some (word (4 * n) a ++ word (4 * length (take (length bs - k) (drop k bs))) b)) fore
-      ∙ ap (λ n. Some (word (4 * k) a ++ word (4 * n) b)) aft in
-      let short : length (word (4 * k) a) ≤ 64 = omega (arith, length_word (4 * k) a) in
-      rw found (ap (λ r. r ++ word 64 y) g ∙ ap (λ r. padded 64 (word (4 * k) a) ++ r) i ∙ two_padded _ _ short ways)
+  pub both_good : (h : Halves) (p q : Bits) → k ≡ min (length bs) 16 → hex_row (take k bs) ≡ Some p → hex_row (drop k bs) ≡ Some q
+      → word 64 h.first ≡ padded 64 p → word 64 h.second ≡ padded 64 q
+      → Holds (cond (leb (length bs) 32) (hex_row bs) None) (Some h)
+  both_good h p q m e f g i =
+      let fore : length p ≡ 4 * length (take k bs) = hex_length (take k bs) p e in
+      let aft : length q ≡ 4 * length (drop k bs) = hex_length (drop k bs) q f in
+      let found : cond (leb (length bs) 32) (hex_row bs) None ≡ Some (p ++ q) = parts ∙ ap (λ o. both o (hex_row (drop k bs))) e ∙ ap (both (Some p)) f in
+      let room : length (take k bs) ≤ 16 = simp length-take (omega arith) in
+      let short : length p ≤ 64 = omega arith in
+      rw found (ap (λ r. r ++ word 64 h.second) g ∙ ap (λ r. padded 64 p ++ r) i ∙ two_padded p q short (ways fore aft))
     where
-      none : (n : ℕ) → n ≡ 0 → word n b ≡ []
-      none n z = nil_from_length (word n b) (length_word n b ∙ z)
-
-      ways : (length (word (4 * k) a) ≡ 64) ⊎ (word (4 * (length bs - k)) b ≡ [])
-      ways = elim (cases_lt 16 (length bs)) [
-        | inl s ↦ inl (omega (arith, length_word (4 * k) a))
-        | inr s ↦ inr (none _ (omega arith))
+      ways : length p ≡ 4 * length (take k bs) → length q ≡ 4 * length (drop k bs) → (length p ≡ 64) ⊎ (q ≡ [])
+      ways fore aft = elim (cases_lt 16 (length bs)) [
+        | inl s ↦ inl (let n : length (take k bs) ≡ 16 = simp length-take (omega arith) in omega arith)
+        | inr s ↦ inr (nil_from_length q (let n : length (drop k bs) ≡ 0 = simp length-drop (omega arith) in omega arith))
       ]

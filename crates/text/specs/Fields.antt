@@ -9,6 +9,7 @@
 --   Holds row h        the two halves h hold the row, which has up to 128 bits, and zeros behind it
 use Rattle.std.specs.Prelude.{◌≡◌, ℕ, suc, ◌+◌, ◌-◌, ◌*◌, Bool, cond, not, ◌&&◌, ◌||◌, List, [], ◌∷◌, ◌++◌, length, drop, Some, None, Option, ◌==◌, nat_le, nat_lt, slice_index}
 use Rattle.bits.specs.Rows.{Bits, halves, padded, word}
+use Rattle.bits.specs.declared.halves.Halves.{Halves}
 
 abbrev pub one_more : Option ℕ → Option ℕ
 one_more None = None
@@ -66,8 +67,8 @@ unfoldable pub hex_row : List ℕ → Option Bits
 hex_row [] = Some []
 hex_row (b ∷ bs) = joined (hex_digit b) (hex_row bs)
 
-abbrev pub Holds : Option Bits → Option (ℕ × ℕ) → Type 0
-Holds (Some q) (Some h) = halves h.0 h.1 ≡ padded 128 q
+abbrev pub Holds : Option Bits → Option Halves → Type 0
+Holds (Some q) (Some h) = halves h.first h.second ≡ padded 128 q
 Holds (Some q) None = ⊥
 Holds None (Some h) = ⊥
 Holds None None = Unit {0}

@@ -3,10 +3,11 @@
 
 mod lines;
 
-ghost use Rattle.std.specs.Prelude.{◌≡◌, ◌*◌, ◌^◌, ◌<◌, ◌≤◌, length, IfSome, if◌then◌else◌, Some, None, MatchOption, nat_le};
+ghost use Rattle.std.specs.Prelude.{◌≡◌, ◌-◌, ◌*◌, ◌^◌, ◌<◌, ◌≤◌, [], ◌∷◌, length, IfSome, if◌then◌else◌, Some, None, MatchOption, nat_le};
 ghost use Rattle.bits.specs.Rows.{padded, word};
-ghost use Rattle.text.specs.Fields.{decimal as number_of, end_of_line, first_of, hex_digit, hex_row, Holds};
+ghost use Rattle.text.specs.Fields.{decimal as number_of, end_of_line, first_of, hex_digit, hex_row, is_digit, parted, Holds};
 
+use bits::Halves;
 pub use lines::Lines;
 
 // The place of the first byte that is the mark.
@@ -14,12 +15,15 @@ pub fn first(bytes: &[u8], mark: u8) -> Option<usize>
     ensures place { result ≡ first_of mark bytes.now }
     ensures within { IfSome result (λ i. i < length bytes.now) }
 {
-    for (i, b) in bytes.iter().enumerate() {
-        if *b == mark {
-            return Some(i);
-        }
-    }
-    None
+    bytes.iter().position(|b| *b == mark)
+}
+
+// What stands before the first mark and what stands behind it, where there is one.
+pub fn split_once(bytes: &[u8], mark: u8) -> Option<(&[u8], &[u8])>
+    ensures { MatchOption result (parted mark bytes.now ≡ bytes.now ∷ []) (λ p. parted mark bytes.now ≡ p.0.now ∷ parted mark p.1.now) }
+{
+    let end = first(bytes, mark)?;
+    Some((&bytes[..end], &bytes[end + 1..]))
 }
 
 // The end of the line that begins at `from`: the place of the next line feed, or the end of the input.
@@ -32,6 +36,7 @@ pub fn line_end(bytes: &[u8], from: usize) -> usize
     if from > len {
         return len;
     }
+    // A `map_or` with a closure found no proof here.
     match first(&bytes[from..len], b'\n') {
         Some(i) => from + i,
         None => len,
@@ -51,14 +56,20 @@ pub fn decimal(field: &[u8]) -> Option<u32>
     if len > 1 && field[0] == b'0' {
         return None;
     }
-    let mut n: u32 = 0;
+    let mut n = 0;
     for b in field {
-        if *b < b'0' || *b > b'9' {
-            return None;
-        }
-        n = n * 10 + u32::from(*b - b'0');
+        n = n * 10 + u32::from(decimal_value(*b)?);
     }
     Some(n)
+}
+
+fn decimal_value(b: u8) -> Option<u8>
+    ensures { result ≡ if is_digit b then Some (b - 48) else None }
+{
+    match b {
+        b'0'..=b'9' => Some(b - b'0'),
+        _ => None,
+    }
 }
 
 fn hex_value(b: u8) -> Option<u8>
@@ -71,37 +82,31 @@ fn hex_value(b: u8) -> Option<u8>
     }
 }
 
-// The number that up to sixteen hexadecimal digits write.
+// The number that up to sixteen hexadecimal digits write. The loop of `decimal` in another base: with digits and base as parameters it
+// would take more lines than it saves.
 fn hex_word(digits: &[u8]) -> Option<u64>
     requires { length digits.now ≤ 16 }
     ensures { MatchOption result (hex_row digits.now ≡ None) (λ n. (hex_row digits.now ≡ Some (word (4 * length digits.now) n)) × (n < 2 ^ (4 * length digits.now))) }
 {
     let mut n: u64 = 0;
     for b in digits {
-        let Some(digit) = hex_value(*b) else {
-            return None;
-        };
-        n = n * 16 + u64::from(digit);
+        n = n * 16 + u64::from(hex_value(*b)?);
     }
     Some(n)
 }
 
-// The bits of up to 32 lower-case hexadecimal digits, as two halves with zeros behind them.
-pub fn hexadecimal(field: &[u8]) -> Option<(u64, u64)>
+// The bits of up to 32 lower-case hexadecimal digits, with zeros behind them.
+pub fn hexadecimal(field: &[u8]) -> Option<Halves>
     ensures { Holds (if nat_le (length field.now) 32 then hex_row field.now else None) result }
 {
-    let len = field.len();
-    if len > 32 {
+    if field.len() > 32 {
         return None;
     }
-    let cut = len.min(16);
-    let Some(first) = hex_word(&field[0..cut]) else {
-        return None;
-    };
-    let Some(second) = hex_word(&field[cut..len]) else {
-        return None;
-    };
-    Some((shifted(first, cut), shifted(second, len - cut)))
+    let (front, back) = field.split_at(field.len().min(16));
+    Some(Halves {
+        first: shifted(hex_word(front)?, front.len()),
+        second: shifted(hex_word(back)?, back.len()),
+    })
 }
 
 // The word that begins with the bits of these digits.

@@ -29,7 +29,7 @@ impl<'a> Iterator for Lines<'a> {
 
     fn next(&mut self) -> Option<&'a [u8]> {
         let rest = self.rest;
-        if rest.len() == 0 {
+        if rest.is_empty() {
             return None;
         }
         let Some(end) = first(rest, b'\n') else {

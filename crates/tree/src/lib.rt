@@ -11,74 +11,54 @@ ghost use Rattle.tree.specs.ShapeLaws.{ShapeLaws};
 ghost use Rattle.tree.specs.StoreLaws.{StoreLaws, EntryLaws};
 ghost use Rattle.tree.specs.TreeLaws.{TreeLaws, ChangeLaws};
 
-pub fn worked_example_stands() -> u8
+pub fn worked_example_stands()
     ensures { Example }
-{
-    0
-}
+{}
 
 // Where the tree branches, which nodes it has, and what a change does to it.
-pub fn tree_laws_stand() -> u8
+pub fn tree_laws_stand()
     ensures tree { TreeLaws }
     ensures change { ChangeLaws }
-{
-    0
-}
+{}
 
 // Each address has one leaf, and the leaf's hop is that of the address's longest match.
-pub fn leaf_laws_stand() -> u8
+pub fn leaf_laws_stand()
     ensures leaf { LeafLaws }
     ensures found { MatchLaws }
-{
-    0
-}
+{}
 
 // No other graph has fewer vertices than there are different branching shapes.
-pub fn graph_laws_stand() -> u8
+pub fn graph_laws_stand()
     ensures { GraphLaws }
-{
-    0
-}
+{}
 
 // The branching shapes that a change brings lie on the path to its prefix.
-pub fn shape_laws_stand() -> u8
+pub fn shape_laws_stand()
     ensures { ShapeLaws }
-{
-    0
-}
+{}
 
 // What entering, re-hopping and striking a route do to each leaf's hop.
-pub fn hop_laws_stand() -> u8
+pub fn hop_laws_stand()
     ensures { HopLaws }
-{
-    0
-}
+{}
 
 // How many matched leaves a change leaves.
-pub fn count_laws_stand() -> u8
+pub fn count_laws_stand()
     ensures { CountLaws }
-{
-    0
-}
+{}
 
 // The ledger stays sound, and a change is refused for the vertices exactly when they would not suffice.
-pub fn ledger_laws_stand() -> u8
+pub fn ledger_laws_stand()
     ensures { LedgerLaws }
-{
-    0
-}
+{}
 
 // The law over runs holds of no calls, and one more call keeps it.
-pub fn run_laws_stand() -> u8
+pub fn run_laws_stand()
     ensures { RunLaws }
-{
-    0
-}
+{}
 
 // What the two stores hold, and what a change does to each of their rows.
-pub fn store_laws_stand() -> u8
+pub fn store_laws_stand()
     ensures store { StoreLaws }
     ensures entry { EntryLaws }
-{
-    0
-}
+{}

@@ -2,14 +2,12 @@
 #![tactic(auto)]
 
 use std::io;
-use std::io::Read;
-use text::Lines;
+use std::io::{BufRead, BufReader};
 
 fn main(rt: HostRuntime) -> io::Result<()> {
-    let mut bytes = Vec::new(rt.alloc());
-    rt.stdin().read_to_end(&mut bytes)?;
-    for line in Lines::new(bytes.as_slice()) {
-        let hash = chooser::fnv::fnv1a(line);
+    for line in BufReader::new(rt.alloc(), rt.stdin())?.split(rt.alloc(), b'\n') {
+        let line = line?;
+        let hash = chooser::fnv::fnv1a(line.as_slice());
         println!(rt; "{hash:016x}")?;
     }
     Ok(())

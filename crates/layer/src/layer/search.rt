@@ -1,9 +1,8 @@
 // Where a layer has a prefix, and where it has room for one.
-ghost use Rattle.std.specs.Prelude.{◌≡◌, if◌then◌else◌};
+ghost use Rattle.std.specs.Prelude.{◌≡◌, not};
 ghost use Rattle.net.specs.Prefix.{row_of};
 ghost use Rattle.store.specs.Slots.{spot};
-ghost use Rattle.layer.specs.Views.{kept_by};
-ghost use Rattle.layer.specs.Buckets.{near, FindsNear, Found, Rooms};
+ghost use Rattle.layer.specs.Buckets.{near, FindsNear, Rooms};
 
 use super::Layer;
 use chooser::Chooser;
@@ -11,9 +10,9 @@ use net::Prefix;
 use store::Store;
 
 impl<C: Chooser, S: Store> Layer<C, S> {
-    // The slot that holds the prefix, in one of its four buckets. Each try costs a hash.
+    // The slot that holds the prefix, in one of its four buckets. Each try costs a hash. A `find_map` over the tries found no proof.
     fn find_near(&self, prefix: &Prefix) -> Option<usize>
-        ensures { FindsNear C.Chooser.bucket self.now.buckets.slots prefix.now result }
+        ensures { FindsNear C.bucket self.now.buckets.slots prefix.now result }
     {
         for attempt in 0..4 {
             let chosen = self.chooser.choose(prefix, attempt);
@@ -26,8 +25,7 @@ impl<C: Chooser, S: Store> Layer<C, S> {
 
     // The slot that holds the prefix. All slots are searched only while some entry is astray.
     pub(super) fn find(&self, prefix: &Prefix) -> Option<usize>
-        ensures holds { Found self.now.buckets.slots (row_of prefix.now) result }
-        ensures exact { kept_by C.Chooser.bucket S.Store.kept S.Store.content self.now → result ≡ spot self.now.buckets.slots (row_of prefix.now) }
+        ensures { result ≡ spot self.now.buckets.slots (row_of prefix.now) }
     {
         if let Some(i) = self.find_near(prefix) {
             return Some(i);
@@ -38,21 +36,17 @@ impl<C: Chooser, S: Store> Layer<C, S> {
         self.buckets.find(prefix)
     }
 
-    // 1 where the bucket is none of the prefix's four, else 0.
-    pub(super) fn astray(&self, prefix: &Prefix, bucket: usize) -> u16
-        ensures { result ≡ (if near C.Chooser.bucket prefix.now bucket then 0 else 1) }
+    // Whether the bucket is none of the prefix's four.
+    pub(super) fn astray(&self, prefix: &Prefix, bucket: usize) -> bool
+        ensures { result ≡ not (near C.bucket prefix.now bucket) }
     {
-        for attempt in 0..4 {
-            if self.chooser.choose(prefix, attempt) as usize == bucket {
-                return 0;
-            }
-        }
-        1
+        !(0..4).any(|attempt| usize::from(self.chooser.choose(prefix, attempt)) == bucket)
     }
 
     // A free slot in the least filled of the prefix's four buckets, the earliest try among equals; none where all four are full.
+    // A `min_by_key` over the tries would answer an `Option` that is always there, so the loop is the plainer.
     pub(super) fn room(&self, prefix: &Prefix) -> Option<usize>
-        ensures { Rooms C.Chooser.bucket self.now.buckets.slots prefix.now result }
+        ensures { Rooms C.bucket self.now.buckets.slots prefix.now result }
     {
         let mut best = self.chooser.choose(prefix, 0);
         let mut least = self.buckets.fill(best);

@@ -1,10 +1,11 @@
 // What a prefix answers, in terms of the row of its bits.
 ghost use Rattle.std.specs.Prelude.{◌≡◌, false, [], ◌∷◌, ◌++◌, length, take, MatchOption, slice_index_or};
+ghost use Rattle.std.specs.Cmp.{IsEquivalence};
 ghost use Rattle.bits.specs.Rows.{begins as beginning, halves as bits_of, padded, same};
 ghost use Rattle.net.specs.Prefix.{row_of, Makes, PrefixLaws};
 
 use super::Prefix;
-use crate::halves;
+use bits::Halves;
 use refusal::Refusal;
 
 // The longest prefix has a whole address of the widest family.
@@ -12,29 +13,26 @@ const LONGEST: u64 = 128;
 
 impl Prefix {
     // The prefix of these halves and this length; refused where the length is over 128, then where a bit past it is 1.
-    pub fn new(first: u64, second: u64, len: u64) -> Result<Prefix, Refusal>
-        ensures { Makes 128 (bits_of first second) len result }
+    pub fn new(halves: Halves, len: u64) -> Result<Prefix, Refusal>
+        ensures { Makes 128 (bits_of halves.first halves.second) len result }
     {
         if len > LONGEST {
             return Err(Refusal::Length);
         }
-        let made = Prefix::front_of(first, second, len as usize);
-        if made.first != first || made.second != second {
+        let made = Prefix::front_of(halves, len as usize);
+        if made.halves != halves {
             return Err(Refusal::HostBits);
         }
         Ok(made)
     }
 
     // The first d bits of two halves; a d over 128 counts as 128.
-    pub fn front_of(first: u64, second: u64, d: usize) -> Prefix
-        ensures { row_of result ≡ take d (bits_of first second) }
+    pub fn front_of(halves: Halves, d: usize) -> Prefix
+        ensures { row_of result ≡ take d (bits_of halves.first halves.second) }
     {
         let d = d.min(128);
-        let first = halves::kept(first, d);
-        let second = halves::kept(second, d.saturating_sub(64));
         Prefix {
-            first,
-            second,
+            halves: halves.front(d),
             len: d as u8,
         }
     }
@@ -45,25 +43,25 @@ impl Prefix {
         self.len
     }
 
-    // Both halves: the bits of the prefix, and zeros behind them.
-    pub fn halves(&self) -> (u64, u64)
-        ensures { bits_of result.0 result.1 ≡ padded 128 (row_of self.now) }
+    // The bits of the prefix, and zeros behind them.
+    pub fn halves(&self) -> Halves
+        ensures { bits_of result.first result.second ≡ padded 128 (row_of self.now) }
     {
-        (self.first, self.second)
+        self.halves
     }
 
     // Bit i, counted from 0; it is 0 from the length on.
     pub fn bit(&self, i: usize) -> bool
         ensures { result ≡ slice_index_or (row_of self.now) i false }
     {
-        halves::bit(self.first, self.second, i)
+        self.halves.bit(i)
     }
 
     // The first d bits; a d over the length counts as the length.
     pub fn front(&self, d: usize) -> Prefix
         ensures { row_of result ≡ take d (row_of self.now) }
     {
-        Prefix::front_of(self.first, self.second, d.min(self.len as usize))
+        Prefix::front_of(self.halves, d.min(self.len as usize))
     }
 
     // The prefix with one bit more, on the 1 side or the 0 side; none where it has 128 bits already.
@@ -73,10 +71,8 @@ impl Prefix {
         if self.len == 128 {
             return None;
         }
-        let (first, second) = halves::extended(self.first, self.second, self.len as usize, one);
         Some(Prefix {
-            first,
-            second,
+            halves: self.halves.extended(self.len as usize, one),
             len: self.len + 1,
         })
     }
@@ -93,30 +89,9 @@ impl Prefix {
     }
 }
 
-impl PartialEq for Prefix {
-    ghost use Rattle.net.specs.Equality.{same_row_partial_equiv};
-
-    ghost eq = { λ p q. same (row_of p) (row_of q) };
-
-    ghost laws = { same_row_partial_equiv };
-
-    fn eq(&self, other: &Prefix) -> bool {
-        if self.first != other.first || self.second != other.second {
-            return false;
-        }
-        other.len == self.len
-    }
-}
-
-impl Eq for Prefix {
-    ghost use Rattle.net.specs.Equality.{same_row_equiv};
-
-    ghost laws = { same_row_equiv };
-}
-
-// A prefix is as long as its row, and there is one prefix for a row.
-pub fn prefix_laws_stand() -> u8
-    ensures { PrefixLaws }
-{
-    0
-}
+// A prefix is as long as its row, there is one prefix for a row, and two prefixes are equal where their rows are the same.
+pub fn prefix_laws_stand()
+    ensures laws { PrefixLaws }
+    ensures equal { (p q : Prefix) → ⟦<Prefix as PartialEq>⟧.eq p q ≡ same (row_of p) (row_of q) }
+    ensures equivalence { IsEquivalence (λ (p q : Prefix). same (row_of p) (row_of q)) }
+{}

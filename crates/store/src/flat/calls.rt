@@ -1,11 +1,11 @@
 // The calls on a flat row. Each looks through the slots from the first to the last.
 ghost use Rattle.std.specs.Prelude.{◌≡◌, min, length};
 ghost use Rattle.net.specs.Prefix.{row_of};
-ghost use Rattle.store.specs.Content.{Empty, Sound};
-ghost use Rattle.store.specs.Slots.{at, row_content, spot, told_by, Frees, RowKept};
+ghost use Rattle.store.specs.Content.{Empty};
+ghost use Rattle.store.specs.Slots.{row_content, spot, Frees};
 
 use super::FlatRow;
-use crate::slot::{Slot, find, find_free, hop_at};
+use crate::slot::{Entry, Slot, find, find_free, hop_at};
 use crate::store::Store;
 use net::Prefix;
 use refusal::Refusal;
@@ -16,16 +16,14 @@ pub const MOST: usize = 1_048_576;
 impl<'a> FlatRow<'a> {
     // Empties the slots.
     pub fn new(slots: &'a mut [Slot]) -> FlatRow<'a>
-        ensures keeps { Sound (RowKept result.slots.now result.held) (row_content result.slots.now) }
         ensures empties { Empty (row_content result.slots.now) }
         ensures limits { (row_content result.slots.now).limit ≡ min (length slots.old) 1048576 }
     {
-        for i in 0..slots.len() {
-            slots[i] = Slot::Free;
-        }
+        slots.fill(None);
         FlatRow { slots, held: 0 }
     }
 
+    // The two searches read through `&self`: of slots that a `&mut self` method lends itself, a proof keeps the length alone.
     fn find(&self, prefix: &Prefix) -> Option<usize>
         ensures { result ≡ spot self.now.slots.now (row_of prefix.now) }
     {
@@ -37,24 +35,18 @@ impl<'a> FlatRow<'a> {
     {
         find_free(self.slots)
     }
-
-    fn hop_at(&self, i: usize) -> Option<u16>
-        ensures { result ≡ told_by (at self.now.slots.now i) }
-    {
-        hop_at(self.slots, i)
-    }
 }
 
 impl Store for FlatRow<'_> {
+    ghost use Rattle.store.specs.Numbers.{row_sound};
+
     ghost content = { λ s. row_content s.slots.now };
 
-    ghost kept = { λ s. RowKept s.slots.now s.held };
+    ghost sound = { λ s. row_sound s.slots.now s.held s.apart s.counted s.most };
 
     fn get(&self, prefix: &Prefix) -> Option<u16> {
-        let Some(i) = self.find(prefix) else {
-            return None;
-        };
-        self.hop_at(i)
+        let i = self.find(prefix)?;
+        hop_at(self.slots, i)
     }
 
     fn held(&self) -> u64 {
@@ -67,39 +59,35 @@ impl Store for FlatRow<'_> {
 
     fn put(&mut self, prefix: &Prefix, hop: u64) -> Result<(), Refusal> {
         let hop = refusal::hop(hop)?;
-        let entry = Slot::Taken {
+        let entry = Entry {
             prefix: *prefix,
             hop,
         };
         if let Some(i) = self.find(prefix) {
-            self.slots[i] = entry;
+            self.slots[i] = Some(entry);
             return Ok(());
         }
         if self.held == self.limit() {
             return Err(Refusal::StoreFull);
         }
-        let Some(i) = self.find_free() else {
-            return Err(Refusal::StoreFull);
-        };
-        self.slots[i] = entry;
-        self.held = self.held.saturating_add(1);
+        // Below its limit a row has a free slot.
+        let i = self.find_free().ok_or(Refusal::StoreFull)?;
+        self.slots[i] = Some(entry);
+        self.held += 1;
         Ok(())
     }
 
     fn remove(&mut self, prefix: &Prefix) -> Option<u16> {
-        let Some(i) = self.find(prefix) else {
-            return None;
-        };
-        let hop = self.hop_at(i);
-        self.slots[i] = Slot::Free;
-        self.held = self.held.saturating_sub(1);
-        hop
+        let i = self.find(prefix)?;
+        // The borrow checker does not cover a `take` of the slot here.
+        let slot = self.slots[i];
+        self.slots[i] = None;
+        self.held -= 1;
+        slot.map(|entry| entry.hop)
     }
 
     fn clear(&mut self) {
-        for i in 0..self.slots.len() {
-            self.slots[i] = Slot::Free;
-        }
+        self.slots.fill(None);
         self.held = 0;
     }
 }

@@ -1,11 +1,10 @@
-use Rattle.text.proofs.Marks.{passed_found, passed_more, passed_all}
+use Rattle.std.proofs.Common.{eqb, ◌∙◌, rules, tests}
+use Rattle.std.proofs.lemmas.Iterator.{YieldsList-from_slice}
+use Rattle.std.proofs.lemmas.Iterator.Search.{position_from_yields_List}
+use Rattle.text.proofs.Marks.{first_is}
 use Rattle.text.proofs.first.Goals as goal
 
-pub returns-then-b-mark : goal.returns-then-b-mark
-returns-then-b-mark c = record { within = c.loop-i-test.true; place = passed_found c.args.mark c.args.bytes.now c.loop-i.i c.loop-i-test.true c.loop-i.invariant c.if-b-mark.true }
-
-pub loop-i-preserved : goal.loop-i-preserved
-loop-i-preserved c = passed_more c.args.mark c.args.bytes.now c.loop-i.i c.loop-i-test.true c.loop-i.invariant c.if-b-mark.false
-
-pub returns : goal.returns
-returns c = record { within = tt; place = passed_all c.args.mark c.args.bytes.now c.loop-i.i c.loop-i-test.false c.loop-i.invariant }
+pub returns-clause-place : goal.returns-clause-place
+returns-clause-place c =
+    position_from_yields_List (λ b. eqb b c.args.mark) _ _ _ c.position.ensures.ran (YieldsList-from_slice c.args.bytes.now (cc)) (λ x b q k. search (rules, tests))
+    ∙ first_is c.args.mark c.args.bytes.now

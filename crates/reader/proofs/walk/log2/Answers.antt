@@ -1,15 +1,13 @@
-use Rattle.std.proofs.Common.{refl, arith}
-use Rattle.reader.proofs.Numbers.{power_none, power_found, power_passed}
+use Rattle.std.proofs.Common.{arith, rules, refl}
+use borrow.Author.Tests.{tests}
+use Rattle.std.proofs.lemmas.Iterator.{YieldsList-from_range}
+use Rattle.std.proofs.lemmas.Iterator.Search.{find_from_yields_List}
+use Rattle.reader.proofs.Numbers.{is_power, power_found}
 use Rattle.reader.proofs.walk.log2.Goals as goal
 
-pub loop-l-init : goal.loop-l-init
-loop-l-init c = refl
-
-pub returns-then-t-l : goal.returns-then-t-l
-returns-then-t-l c = power_found c.args.stride.bits c.loop-l.l c.args.t c.loop-l.invariant c.loop-l-test.true (omega (arith, c.args.stride.most)) c.if-t-l.true
-
-pub loop-l-preserved : goal.loop-l-preserved
-loop-l-preserved c = power_passed c.args.stride.bits c.loop-l.l c.args.t c.loop-l.invariant c.loop-l-test.true (omega (arith, c.args.stride.most)) c.if-t-l.false
-
 pub returns : goal.returns
-returns c = power_none c.args.stride.bits c.loop-l.l c.args.t c.loop-l.invariant c.loop-l-test.false
+returns c =
+    let s = c.args.stride in
+    let found = power_found s.bits c.args.t s.most c.find.result
+    (find_from_yields_List (is_power c.args.t) _ _ c.find.result c.find.ensures.ran (YieldsList-from_range 0 s.bits s.bits refl (omega arith)) (λ x b q k. search (rules, tests))) in
+    record { is = found.0; below = found.1 }

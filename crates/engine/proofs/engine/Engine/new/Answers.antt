@@ -1,23 +1,24 @@
-use Rattle.std.proofs.Common.{◌≡◌, List, [], sym, ◌∙◌}
-use Rattle.graph.specs.Slots.{unfolds_end}
+use Rattle.std.proofs.Common.{◌≡◌, [], sym, refl, ◌∙◌}
+use Rattle.graph.specs.Slots.{Unfolds, unfolds_end}
 use Rattle.graph.specs.View.{Holds}
-use Rattle.graph.specs.declared.edge.Edge.TheVariants.{End}
-use Rattle.graph.specs.declared.vertex.Vertex.{Vertex}
-use Rattle.store.specs.Content.{Content, Sound, Empty}
+use Rattle.store.specs.Content.{Sound, Empty}
+use Rattle.tree.specs.Tree.{leaf}
 use Rattle.tree.specs.Ledger.{Given}
 use Rattle.tree.proofs.Sounds.{starts_sound}
-use Rattle.engine.specs.Serves.{Serving}
+use Rattle.engine.specs.State.{State}
+use Rattle.engine.specs.Serves.{Serves}
 use Rattle.engine.proofs.Looking.{no_entries}
 use Rattle.engine.proofs.Running.{ran_starts}
 use Rattle.engine.proofs.engine.Engine.new.Goals as goal
 
 -- two empty stores and an empty graph serve no routes
-begun : (g : Given) (own_r own_l : Type 0) (routes leaves : Content) (slots : List Vertex) → Sound own_r routes → Empty routes → routes.limit ≡ g.route_limit
-    → Sound own_l leaves → Empty leaves → leaves.limit ≡ g.leaf_limit → Holds slots [] → Serving g [] own_r own_l routes leaves slots End
-begun g own_r own_l routes leaves slots sound-r empty-r limit-r sound-l empty-l limit-l holds =
+begun : (g : Given) (s : State) → g.width ≡ s.width → Sound s.routes → Empty s.routes → s.routes.limit ≡ g.route_limit
+    → Sound s.leaves → Empty s.leaves → s.leaves.limit ≡ g.leaf_limit → Unfolds s.slots s.start leaf → Holds s.slots [] → Serves g [] s
+begun g s wide sound-r empty-r limit-r sound-l empty-l limit-l starts holds =
     record {
       ledger = starts_sound g;
       stored = record {
+        width = wide;
         routes_sound = sound-r;
         route_hops = empty-r.rows;
         routes_held = empty-r.number;
@@ -27,7 +28,7 @@ begun g own_r own_l routes leaves slots sound-r empty-r limit-r sound-l empty-l 
         leaves_held = empty-l.number;
         leaves_limit = limit-l;
       };
-      starts = unfolds_end;
+      starts = starts;
       holds = holds;
     }
 
@@ -35,8 +36,5 @@ pub returns : goal.returns
 returns g c =
     let routes = c.clear.ensures in
     let leaves = c.clear-2.ensures in
-    record {
-      serves = begun _ _ _ _ _ _ routes.keeps routes.empties routes.limits leaves.keeps leaves.empties leaves.limits c.empty.ensures.holds;
-      ran = ran_starts _ g.R.Store.kept g.R.Store.content g.L.Store.kept g.L.Store.content _
-          (begun _ _ _ _ _ _ routes.keeps routes.empties routes.limits leaves.keeps leaves.empties leaves.limits c.empty.ensures.holds);
-    }
+    let serves = begun _ _ refl (g.met.R.Store.sound c.clear.new.self) routes.empties routes.limits (g.met.L.Store.sound c.clear-2.new.self) leaves.empties leaves.limits unfolds_end c.empty.ensures.holds in
+    record { serves = serves; ran = ran_starts _ _ c.empty.result.sound serves }

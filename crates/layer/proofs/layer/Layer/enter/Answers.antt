@@ -1,70 +1,60 @@
-use Rattle.std.proofs.Common.{◌≡◌, ◌+◌, set, Ok, sym, refl, ◌∙◌, subst, arith}
-use Rattle.net.specs.Prefix.{row_of}
-use Rattle.store.specs.Content.{Puts}
-use Rattle.store.specs.declared.slot.Slot.TheVariants.{Taken}
-use Rattle.layer.specs.Places.{PutsIn}
+use Rattle.std.proofs.Common.{sym, refl, ◌∙◌, subst, rules}
+use Rattle.store.specs.Slots.{Frees}
+use Rattle.store.specs.declared.slot.Entry.{Entry}
 use Rattle.layer.proofs.Buckets.{strays_most}
-use Rattle.layer.proofs.Puts.{entered_bucket, entered_below, entered_anywhere, no_room, put_as}
+use Rattle.layer.proofs.Ways.{enters_bucket, enters_below, enters_anywhere, never_full}
 use Rattle.layer.proofs.layer.Layer.enter.Goals as goal
+
+pub invariant_of-self : goal.invariant_of-self
+invariant_of-self g c =
+    let self = c.args.self.now in
+    let s : Entry = record { prefix = c.args.prefix.now; hop = c.args.hop } in
+    let done = enters_bucket self s c.requires.good (g.met.S.Store.sound self.below) c.requires.fresh c.held.ensures c.limit.ensures.answer c.if-held-limit.false c.in-Some.ensures c.write.ensures in
+    record { apart = done.kept.apart; separate = done.kept.separate; counted = done.kept.counted; most = done.kept.most }
 
 pub returns-in-Some : goal.returns-in-Some
 returns-in-Some g c =
     let self = c.args.self.now in
-    let free = c.in-Some.ensures in
-    record {
-      limits = refl;
-      enters = λ fresh.
-          put_as g.C.Chooser.bucket c.args.prefix.now c.args.hop self.buckets.slots (g.S.Store.content self.below) self.strays (g.S.Store.kept self.below) (g.S.Store.content self.below) (Ok tt) _ _ c.write.ensures (entered_bucket g.C.Chooser.bucket c.args.prefix.now c.args.hop self.buckets.slots self.strays (g.S.Store.kept self.below) (g.S.Store.content self.below) fresh
-          (λ z. c.if-held-limit.false (c.held.ensures fresh.sound ∙ z ∙ sym c.limit.ensures.answer))
-          c.in-Some.i (omega (arith, free.1, self.buckets.long)) free.2 free.0);
-    }
+    let s : Entry = record { prefix = c.args.prefix.now; hop = c.args.hop } in
+    let done = enters_bucket self s c.requires.good (g.met.S.Store.sound self.below) c.requires.fresh c.held.ensures c.limit.ensures.answer c.if-held-limit.false c.in-Some.ensures c.write.ensures in
+    record { limits = refl; puts = done.puts; places = done.places }
+
+pub invariant_of-self-then-is_ok : goal.invariant_of-self-then-is_ok
+invariant_of-self-then-is_ok g c =
+    let self = c.args.self.now in
+    let s : Entry = record { prefix = c.args.prefix.now; hop = c.args.hop } in
+    let done = enters_below self s c.requires.good (g.met.S.Store.sound self.below) c.requires.fresh c.held.ensures c.limit.ensures.answer c.if-held-limit.false c.in_default.ensures c.from.result (g.S.Store.content c.put.new.self) c.put.result c.from.ensures c.put.ensures.puts (sym c.if-is_ok.ensures.value) in
+    record { apart = done.kept.apart; separate = done.kept.separate; counted = done.kept.counted; most = done.kept.most }
 
 pub returns-then-is_ok : goal.returns-then-is_ok
 returns-then-is_ok g c =
     let self = c.args.self.now in
-    let d = g.S.Store.content c.put.new.self in
-    let puts = c.put.ensures in
-    record {
-      limits = puts.limits;
-      enters = λ fresh.
-          entered_below g.C.Chooser.bucket c.args.prefix.now c.args.hop self.buckets.slots self.strays (g.S.Store.kept self.below) (g.S.Store.content self.below) fresh
-          (λ z. c.if-held-limit.false (c.held.ensures fresh.sound ∙ z ∙ sym c.limit.ensures.answer))
-          c.in_default.ensures d (g.S.Store.kept c.put.new.self) c.put.result (sym c.if-is_ok.ensures.value)
-          (subst (λ h. Puts (row_of c.args.prefix.now) h (g.S.Store.content self.below) d c.put.result) c.from.ensures (puts.puts fresh.sound.kept.below))
-          puts.limits (puts.keeps fresh.sound.kept.below);
-    }
+    let s : Entry = record { prefix = c.args.prefix.now; hop = c.args.hop } in
+    let done = enters_below self s c.requires.good (g.met.S.Store.sound self.below) c.requires.fresh c.held.ensures c.limit.ensures.answer c.if-held-limit.false c.in_default.ensures c.from.result (g.S.Store.content c.put.new.self) c.put.result c.from.ensures c.put.ensures.puts (sym c.if-is_ok.ensures.value) in
+    record { limits = c.put.ensures.limits; puts = done.puts; places = done.places }
 
-pub returns-in_default-find_free : goal.returns-in_default-find_free
-returns-in_default-find_free g c =
+pub returns-in_err-i : goal.returns-in_err-i
+returns-in_err-i g c =
     let self = c.args.self.now in
-    let d = g.S.Store.content c.put.new.self in
-    let puts = c.put.ensures in
-    record {
-      limits = puts.limits;
-      enters = λ fresh. absurd
-          (no_room g.C.Chooser.bucket c.args.prefix.now c.args.hop self.buckets.slots self.strays (g.S.Store.kept self.below) (g.S.Store.content self.below) fresh
-          (λ z. c.if-held-limit.false (c.held.ensures fresh.sound ∙ z ∙ sym c.limit.ensures.answer))
-          c.in_default.ensures d c.put.result (sym c.is_ok.ensures.value ∙ c.if-is_ok.false)
-          (subst (λ h. Puts (row_of c.args.prefix.now) h (g.S.Store.content self.below) d c.put.result) c.from.ensures (puts.puts fresh.sound.kept.below))
-          self.buckets.long c.in_default-find_free.ensures);
-    }
+    let s : Entry = record { prefix = c.args.prefix.now; hop = c.args.hop } in
+    absurd (never_full self s c.requires.good (g.met.S.Store.sound self.below) c.requires.fresh c.held.ensures c.limit.ensures.answer c.if-held-limit.false c.in_default.ensures c.from.result (g.S.Store.content c.put.new.self) c.put.result c.from.ensures c.put.ensures.puts (sym c.is_ok.ensures.value ∙ c.if-is_ok.false) (subst (Frees self.buckets.slots) c.in_err-i.ensures.ok_part c.find_free.ensures))
+
+pub overflow_add-self : goal.overflow_add-self
+overflow_add-self g c =
+    let self = c.args.self.now in
+    let few = strays_most g.C.Chooser.bucket self.buckets.slots in
+    search rules
+
+pub invariant_of-self-2 : goal.invariant_of-self-2
+invariant_of-self-2 g c =
+    let self = c.args.self.now in
+    let s : Entry = record { prefix = c.args.prefix.now; hop = c.args.hop } in
+    let done = enters_anywhere self s c.requires.good (g.met.S.Store.sound self.below) c.requires.fresh c.held.ensures c.limit.ensures.answer c.if-held-limit.false c.in_default.ensures c.from.result (g.S.Store.content c.put.new.self) c.put.result c.from.ensures c.put.ensures.puts (sym c.is_ok.ensures.value ∙ c.if-is_ok.false) (subst (Frees self.buckets.slots) c.in_ok-i.ensures.ok_part c.find_free.ensures) c.write-2.ensures in
+    record { apart = done.kept.apart; separate = done.kept.separate; counted = done.kept.counted; most = done.kept.most }
 
 pub returns : goal.returns
 returns g c =
     let self = c.args.self.now in
-    let d = g.S.Store.content c.put.new.self in
-    let puts = c.put.ensures in
-    let free = c.in-Some-find_free.ensures in
-    record {
-      limits = puts.limits;
-      enters = λ fresh.
-          let more : c.saturating_add-self.result ≡ self.strays + 1 = omega (arith, c.saturating_add-self.ensures, fresh.sound.kept.strays, strays_most g.C.Chooser.bucket self.buckets.slots, self.buckets.long) in
-          put_as g.C.Chooser.bucket c.args.prefix.now c.args.hop self.buckets.slots (g.S.Store.content self.below) c.saturating_add-self.result (g.S.Store.kept c.put.new.self) d (Ok tt) _ _ c.write-2.ensures (subst
-          (λ n. PutsIn g.C.Chooser.bucket c.args.prefix.now c.args.hop self.buckets.slots (g.S.Store.content self.below) (set self.buckets.slots c.in-Some-find_free.i (Taken c.args.prefix.now c.args.hop)) n (g.S.Store.kept c.put.new.self) d (Ok tt))
-          (sym more)
-          (entered_anywhere g.C.Chooser.bucket c.args.prefix.now c.args.hop self.buckets.slots self.strays (g.S.Store.kept self.below) (g.S.Store.content self.below) fresh
-          (λ z. c.if-held-limit.false (c.held.ensures fresh.sound ∙ z ∙ sym c.limit.ensures.answer))
-          c.in_default.ensures d (g.S.Store.kept c.put.new.self) c.put.result c.in-Some-find_free.i (sym c.is_ok.ensures.value ∙ c.if-is_ok.false)
-          (subst (λ h. Puts (row_of c.args.prefix.now) h (g.S.Store.content self.below) d c.put.result) c.from.ensures (puts.puts fresh.sound.kept.below))
-          (puts.keeps fresh.sound.kept.below) self.buckets.long free.0 free.1));
-    }
+    let s : Entry = record { prefix = c.args.prefix.now; hop = c.args.hop } in
+    let done = enters_anywhere self s c.requires.good (g.met.S.Store.sound self.below) c.requires.fresh c.held.ensures c.limit.ensures.answer c.if-held-limit.false c.in_default.ensures c.from.result (g.S.Store.content c.put.new.self) c.put.result c.from.ensures c.put.ensures.puts (sym c.is_ok.ensures.value ∙ c.if-is_ok.false) (subst (Frees self.buckets.slots) c.in_ok-i.ensures.ok_part c.find_free.ensures) c.write-2.ensures in
+    record { limits = c.put.ensures.limits; puts = done.puts; places = done.places }

@@ -3,4 +3,4 @@ use Rattle.net.proofs.Families.{top_word}
 use Rattle.net.proofs.ipv4.Ipv4Family.from_halves.Goals as goal
 
 pub returns : goal.returns
-returns c = top_word 32 c.args.first c.args._second (omega arith)
+returns c = top_word 32 c.args.halves.first c.args.halves.second (omega arith)

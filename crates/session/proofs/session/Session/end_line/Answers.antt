@@ -1,13 +1,21 @@
+use Rattle.std.proofs.Common.{◌∙◌}
+use Rattle.engine.specs.Seen.{state}
+use Rattle.session.specs.Seen.{hearing}
 use Rattle.session.specs.Session.{ended}
-use Rattle.session.proofs.Sessions.{heard_line}
+use Rattle.session.proofs.Sessions.{heard_line, reply_told, row_told}
+use Rattle.line.specs.Told.{reply_to}
 use Rattle.session.proofs.session.Session.end_line.Goals as goal
 
-pub returns-in-Ok : goal.returns-in-Ok
-returns-in-Ok g c = record {
-  within = c.in-Ok.ensures.row.1;
-  rest = c.in-Ok.ensures.row.2;
-  heard = λ h input output w room k.
-      let told = c.in-Ok.ensures.told h (ended input) w room k.told in
-      heard_line h g.R.Store.kept g.R.Store.content g.L.Store.kept g.L.Store.content input output c.args.self.now (record { engine = c.answer_line.new.engine; line = c.empty-self.result })
-      c.bytes.result.now c.args.row.now c.answer_line.new.row c.in-Ok.n c.bytes.ensures told.0 told.1.0 told.1.1 c.empty-self.ensures k;
-}
+pub returns : goal.returns
+returns g c =
+    let kept = row_told c.answer_line.result c.unwrap_or.result c.args.row.now c.answer_line.new.row c.unwrap_or.ensures c.answer_line.ensures.row in
+    record {
+      within = kept.0;
+      rest = kept.1;
+      heard = λ h input output room k.
+          let told = c.answer_line.ensures.told h (ended input) room k.told in
+          let reply = reply_told c.answer_line.result c.unwrap_or.result (reply_to h (ended input) c.bytes.result.now) c.args.row.now c.answer_line.new.row c.unwrap_or.ensures told.1 in
+          heard_line h input output (hearing c.args.self.now) (record { engine = state c.answer_line.new.engine; line = c.replace-line.new.dest })
+          c.bytes.result.now c.args.row.now c.answer_line.new.row c.unwrap_or.result (c.bytes.ensures ∙ c.replace-line.ensures.value) told.0 reply.0 reply.1
+          (c.replace-line.ensures.after ∙ c.empty.ensures) k;
+    }

@@ -1,23 +1,36 @@
-use Rattle.std.proofs.Common.{◌+◌, ◌-◌, min, sym, refl, ap, ◌∙◌}
-use Rattle.layer.specs.Views.{SoundLayer}
-use Rattle.layer.proofs.Puts.{taken_own, taken_below, taken_as}
+use Rattle.std.proofs.Common.{◌≡◌, ◌-◌, ◌/◌, cond, sym, ap, ◌∙◌, arith}
+use Rattle.layer.specs.Buckets.{near}
+use Rattle.layer.proofs.Buckets.{strays_some}
+use Rattle.layer.proofs.Ways.{takes_own, takes_below}
 use Rattle.layer.proofs.layer.calls.LayerStore.remove.Goals as goal
 
-pub returns-in_default : goal.returns-in_default
-returns-in_default g c =
-    let self = c.args.self.now in
-    let d = g.S.Store.content c.remove.new.self in
-    let takes = c.remove.ensures in
-    let done = λ (sound : SoundLayer g.C.Chooser.bucket g.S.Store.kept g.S.Store.content self).
-    taken_below g.C.Chooser.bucket c.args.prefix.now self.buckets.slots self.strays (g.S.Store.kept self.below) (g.S.Store.content self.below) sound d (g.S.Store.kept c.remove.new.self) c.remove.result
-    (sym (c.in_default.ensures.exact sound.kept)) (takes.removes sound.kept.below) takes.limits (takes.keeps sound.kept.below) in
-    record { limits = ap (λ n. min (768 + n) 16777216) takes.limits; keeps = λ s. (done s).0; removes = λ s. (done s).1.0; places = λ s. (done s).1.1 }
+pub returns-in_default-clause-removes : goal.returns-in_default-clause-removes
+returns-in_default-clause-removes g c =
+    (takes_below c.args.self.now c.args.prefix.now (g.S.Store.content c.remove.new.self) c.remove.result c.in_default.ensures c.remove.ensures.removes).removes
 
-pub returns : goal.returns
-returns g c =
+pub returns-in_default-clause-places : goal.returns-in_default-clause-places
+returns-in_default-clause-places g c =
+    (takes_below c.args.self.now c.args.prefix.now (g.S.Store.content c.remove.new.self) c.remove.result c.in_default.ensures c.remove.ensures.removes).places
+
+pub overflow_sub-self : goal.overflow_sub-self
+overflow_sub-self g c =
     let self = c.args.self.now in
-    let done = λ (sound : SoundLayer g.C.Chooser.bucket g.S.Store.kept g.S.Store.content self).
-    taken_as g.C.Chooser.bucket c.args.prefix.now self.buckets.slots c.saturating_sub-self.result (g.S.Store.kept self.below) (g.S.Store.content self.below) _ c.hop_at-hop.result _ _ c.write.ensures c.hop_at-hop.ensures
-    (taken_own g.C.Chooser.bucket c.args.prefix.now self.buckets.slots self.strays (g.S.Store.kept self.below) (g.S.Store.content self.below) sound c.in-Some.i c.saturating_sub-self.result
-    (sym (c.in-Some.ensures.exact sound.kept)) (c.saturating_sub-self.ensures ∙ ap (λ n. self.strays - n) c.astray-stray.ensures)) in
-    record { limits = refl; keeps = λ s. (done s).0; removes = λ s. (done s).1.0; places = λ s. (done s).1.1 }
+    let some = strays_some g.C.Chooser.bucket self.buckets.slots c.args.prefix.now c.in-Some.i (sym c.in-Some.ensures) in
+    let stray : c.from.result ≡ cond (near g.C.Chooser.bucket c.args.prefix.now (c.in-Some.i / 3)) 0 1 = grind arith in
+    omega (arith, self.counted, stray, some)
+
+pub invariant_of-self-2 : goal.invariant_of-self-2
+invariant_of-self-2 g c =
+    let self = c.args.self.now in
+    let done = takes_own self c.args.prefix.now c.in-Some.ensures c.write.ensures in
+    let stray : c.from.result ≡ cond (near g.C.Chooser.bucket c.args.prefix.now (c.in-Some.i / 3)) 0 1 = grind arith in
+    record { apart = done.kept.apart; separate = done.kept.separate; counted = ap (λ n. self.strays - n) stray ∙ done.kept.counted; most = done.kept.most }
+
+pub returns-clause-removes : goal.returns-clause-removes
+returns-clause-removes g c =
+    let self = c.args.self.now in
+    let done = takes_own self c.args.prefix.now c.in-Some.ensures c.write.ensures in
+    rw c.hop_at-hop.ensures done.removes
+
+pub returns-clause-places : goal.returns-clause-places
+returns-clause-places g c = (takes_own c.args.self.now c.args.prefix.now c.in-Some.ensures c.write.ensures).places

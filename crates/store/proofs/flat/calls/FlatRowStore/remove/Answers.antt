@@ -1,36 +1,33 @@
-use Rattle.std.proofs.Common.{◌<◌, min, length, set, sym, refl, ap, subst, arith, rules}
-use Rattle.std.proofs.lemmas.List.{length-set}
+use Rattle.std.proofs.Common.{◌≡◌, None, rules, sym, ap, arith}
+use Rattle.std.proofs.lemmas.List.{get_or_read}
+use Rattle.std.proofs.lemmas.List.Quantifiers.{position-Some}
+use Rattle.store.specs.Slots.{holds, row_content, told_at, told_by}
 use Rattle.net.specs.Prefix.{row_of}
-use Rattle.store.specs.Content.{Removes}
-use Rattle.store.specs.Slots.{told_at, row_content}
-use Rattle.store.specs.declared.slot.Slot.TheVariants.{Free}
-use Rattle.store.proofs.Spots.{spot_holds}
-use Rattle.store.proofs.Rows.{removed, not_there, row_sound, taken_out}
+use Rattle.store.proofs.Rows.{removed, not_there, taken_out}
 use Rattle.store.proofs.flat.calls.FlatRowStore.remove.Goals as goal
 
-pub returns-in_default : goal.returns-in_default
-returns-in_default c =
+pub returns-in_err-i-clause-removes : goal.returns-in_err-i-clause-removes
+returns-in_err-i-clause-removes c =
     let xs = c.args.self.now.slots.now in
-    record {
-      limits = refl;
-      keeps = λ s. s;
-      removes = λ _. not_there (row_content xs) (row_of c.args.prefix.now) (ap (told_at xs) (sym c.in_default.ensures));
-    }
+    rw c.from_residual.ensures (not_there (row_content xs) (row_of c.args.prefix.now) (ap (told_at xs) (sym c.in_err-i.ensures)))
 
-pub bounds-self-i : goal.bounds-self-i
-bounds-self-i c = (spot_holds c.args.self.now.slots.now (row_of c.args.prefix.now) c.in-Some.i (sym c.in-Some.ensures)).1
+pub overflow_sub-self : goal.overflow_sub-self
+overflow_sub-self c =
+    let self = c.args.self.now in
+    omega (arith, self.counted, (taken_out self.slots.now self.apart (row_of c.args.prefix.now) c.in_ok-i.i (sym c.in_ok-i.ensures)).1)
 
-pub offset_bounds-self-i : goal.offset_bounds-self-i
-offset_bounds-self-i c = let l : c.in-Some.i < length c.args.self.now.slots.now = bounds-self-i c in search rules
+pub invariant_of-self : goal.invariant_of-self
+invariant_of-self c =
+    let self = c.args.self.now in
+    let t = taken_out self.slots.now self.apart (row_of c.args.prefix.now) c.in_ok-i.i (sym c.in_ok-i.ensures) in
+    record { apart = t.0; counted = omega (arith, self.counted, t.1); most = omega (arith, self.most) }
 
-pub returns : goal.returns
-returns c =
+pub returns-clause-removes : goal.returns-clause-removes
+returns-clause-removes c =
     let xs = c.args.self.now.slots.now in
-    let i = c.in-Some.i in
     let q = row_of c.args.prefix.now in
-    record {
-      limits = ap (λ n. min n 1048576) (length-set xs i Free);
-      keeps = λ s. (let t = taken_out xs s.kept.apart q i (sym c.in-Some.ensures) in
-          row_sound (set xs i Free) c.saturating_sub-self.result t.0 (omega (arith, t.1, s.kept.counted, c.saturating_sub-self.ensures)) (omega (arith, t.1, s.within)));
-      removes = λ s. subst (Removes q (row_content xs) (row_content (set xs i Free))) (sym c.hop_at-hop.ensures) (removed xs s.kept.apart q i (sym c.in-Some.ensures));
-    }
+    let i = c.in_ok-i.i in
+    let e = sym c.in_ok-i.ensures in
+    let hop : c.map.result ≡ told_by c.index-self-i.result = search rules in
+    let read = get_or_read xs i c.index-self-i.result (position-Some (holds q) xs i None e).0 c.index-self-i.is None in
+    rw (hop, read) (removed xs c.args.self.now.apart q i e)

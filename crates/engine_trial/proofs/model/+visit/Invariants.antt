@@ -1,4 +1,0 @@
-use Rattle.engine_trial.proofs.model.+visit.Given as goal
-
-abbrev pub decreases-visit : goal.decreases-visit
-decreases-visit l = l.deepest
