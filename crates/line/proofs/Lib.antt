@@ -1,3 +1,4 @@
+pub mod Held
 pub mod Replies
 pub mod Addresses
 pub mod Telling

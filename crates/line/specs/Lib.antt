@@ -1,3 +1,4 @@
+pub mod Held
 pub mod Line
 pub mod Reply
 pub mod Told

@@ -1,14 +1,12 @@
-use Rattle.std.proofs.Common.{◌≡◌, ℕ, ◌<◌, List, [], ◌∷◌, ◌++◌, length, take, sym, arith, length-append}
-use Rattle.std.proofs.lemmas.List.{take_all, take_at}
-use Rattle.std.proofs.lemmas.Bool.Decides.{nat_tests}
+use Rattle.std.proofs.Common.{[], ◌∷◌, ◌++◌, take, ap, sym, ◌∙◌}
+use Rattle.line.proofs.Held.{byte_blank, byte_held, full_held}
 use Rattle.line.proofs.buffer.Buffer.push.Goals as goal
 
--- a byte that has room is held
-held : (xs : List ℕ) (b : ℕ) → length xs < 81 → xs ++ (b ∷ []) ≡ take 81 (xs ++ (b ∷ []))
-held xs b h = sym (take_all 81 (xs ++ (b ∷ [])) (omega (arith, length-append xs (b ∷ []))))
+pub invariant_of-self : goal.invariant_of-self
+invariant_of-self c = byte_blank c.self.inside c.args.b c.self.invariant c.if-self-lt-MOST_HELD.true
 
-pub returns-then-not-is_full : goal.returns-then-not-is_full
-returns-then-not-is_full c = let room : length c.args.self.now < 81 = grind (arith, nat_tests) in let kept = held c.args.self.now c.args.b room in cc
+pub returns-then-self-lt-MOST_HELD : goal.returns-then-self-lt-MOST_HELD
+returns-then-self-lt-MOST_HELD c = byte_held c.self.inside c.args.b c.self.invariant c.if-self-lt-MOST_HELD.true ∙ ap (λ xs. take 81 (xs ++ (c.args.b ∷ []))) c.self.view_is
 
-pub returns-else-not-is_full : goal.returns-else-not-is_full
-returns-else-not-is_full c = let full : length c.args.self.now ≡ 81 = grind (arith, nat_tests) in sym (take_at c.args.self.now (c.args.b ∷ []) 81 full)
+pub returns-else-self-lt-MOST_HELD : goal.returns-else-self-lt-MOST_HELD
+returns-else-self-lt-MOST_HELD c = sym c.self.view_is ∙ full_held c.self.inside c.args.b c.self.invariant c.if-self-lt-MOST_HELD.false ∙ ap (λ xs. take 81 (xs ++ (c.args.b ∷ []))) c.self.view_is
