@@ -5,9 +5,10 @@
 use chooser::{Fnv, Fold, Load, buckets};
 use net::Prefix;
 use refusal::Refusal;
-use std::io::{BufRead, BufReader};
+use std::io::Read;
 use std::{fmt, io};
 use tally::Count;
+use text::Lines;
 
 // What was seen of the lines so far.
 #[derive(Drop)]
@@ -81,10 +82,11 @@ impl fmt::Display for Report {
 }
 
 fn main(rt: HostRuntime) -> io::Result<()> {
+    let mut input = Vec::new(rt.alloc());
+    rt.stdin().read_to_end(&mut input)?;
     let mut report = Report::new();
-    for line in BufReader::new(rt.alloc(), rt.stdin())?.split(rt.alloc(), b'\n') {
-        let line = line?;
-        rt.println(report.line(line.as_slice()))?;
+    for line in Lines::new(input.as_slice()) {
+        rt.println(report.line(line))?;
     }
     rt.println(report)
 }

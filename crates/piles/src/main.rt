@@ -5,10 +5,11 @@
 use chooser::{Chooser, Fnv, Fold};
 use layer::{Layer, Place};
 use net::Prefix;
-use std::io::{BufRead, BufReader};
+use std::io::Read;
 use std::{fmt, io};
 use store::{FlatRow, Lent, Store};
 use tally::Count;
+use text::Lines;
 
 #[derive(Clone, Copy)]
 struct Entry {
@@ -68,10 +69,11 @@ fn read_entry(line: &[u8]) -> Option<Entry> {
 
 // `replays` reads alike: with what a line gives as a parameter, each would be as long.
 fn read_entries(rt: &HostRuntime) -> io::Result<Vec<Entry>> {
+    let mut input = Vec::new(rt.alloc());
+    rt.stdin().read_to_end(&mut input)?;
     let mut entries = Vec::new(rt.alloc());
-    for line in BufReader::new(rt.alloc(), rt.stdin())?.split(rt.alloc(), b'\n') {
-        let line = line?;
-        if let Some(entry) = read_entry(line.as_slice()) {
+    for line in Lines::new(input.as_slice()) {
+        if let Some(entry) = read_entry(line) {
             entries.push(entry)?;
         }
     }

@@ -8,9 +8,10 @@ use engine::{Answer, Turn, replay};
 use layer::Layer;
 use line::read_call;
 use net::Ipv4;
-use std::io::{BufRead, BufReader};
+use std::io::Read;
 use std::{fmt, io};
 use store::{FlatRow, Lent, Store};
+use text::Lines;
 
 // An answer as a line of the output. A refusal is told by its word.
 #[derive(Clone, Copy)]
@@ -35,10 +36,11 @@ impl fmt::Display for Shown {
 
 // The calls of all lines, each with no answer yet.
 fn read_turns(rt: &HostRuntime) -> io::Result<Vec<Turn<Ipv4>>> {
+    let mut input = Vec::new(rt.alloc());
+    rt.stdin().read_to_end(&mut input)?;
     let mut turns = Vec::new(rt.alloc());
-    for line in BufReader::new(rt.alloc(), rt.stdin())?.split(rt.alloc(), b'\n') {
-        let line = line?;
-        if let Ok(call) = read_call(line.as_slice()) {
+    for line in Lines::new(input.as_slice()) {
+        if let Ok(call) = read_call(line) {
             turns.push(Turn {
                 call,
                 answer: Answer::NoRoute,

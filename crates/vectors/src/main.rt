@@ -2,12 +2,14 @@
 #![tactic(auto)]
 
 use std::io;
-use std::io::{BufRead, BufReader};
+use std::io::Read;
+use text::Lines;
 
 fn main(rt: HostRuntime) -> io::Result<()> {
-    for line in BufReader::new(rt.alloc(), rt.stdin())?.split(rt.alloc(), b'\n') {
-        let line = line?;
-        let hash = chooser::fnv::fnv1a(line.as_slice());
+    let mut input = Vec::new(rt.alloc());
+    rt.stdin().read_to_end(&mut input)?;
+    for line in Lines::new(input.as_slice()) {
+        let hash = chooser::fnv::fnv1a(line);
         println!(rt; "{hash:016x}")?;
     }
     Ok(())
