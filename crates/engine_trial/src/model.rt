@@ -84,7 +84,10 @@ impl Model {
         match call {
             Call::Announce(row, len, hop) => Ok(Answer::Changed(self.announce(&row, len, hop)?)),
             Call::Withdraw(row, len) => Ok(Answer::Changed(self.withdraw(&row, len)?)),
-            Call::Lookup(row) => Ok(Answer::from(longest(self.routes.as_slice(), &row))),
+            Call::Lookup(row) => match longest(self.routes.as_slice(), &row) {
+                Some(hop) => Ok(Answer::Hop(hop)),
+                None => Ok(Answer::NoRoute),
+            },
             Call::Count => {
                 let seen = see(self.heap, self.routes.as_slice(), self.routes.as_slice())?;
                 Ok(Answer::Counts(
