@@ -1,5 +1,5 @@
 -- Edges: when two are equal, and what an edge is taken for. Assumes nothing.
-use Rattle.std.proofs.Common.{◌≡◌, ℕ, ◌<◌, ◌≤◌, Bool, true, false, List, length, Some, None, Option, is_some, sym, refl, inl, inr, arith}
+use Rattle.std.proofs.Common.{◌≡◌, ℕ, ◌<◌, Bool, true, false, List, length, Some, None, Option, is_some, sym, refl, inl, inr, arith}
 use mathlib.Core.HLevel.{Unit-prop}
 use mathlib.Core.Bool.{Bool-set}
 use Rattle.std.proofs.lemmas.Bool.{cases_lt, both_ways, true≢false}
