@@ -18,7 +18,10 @@ pub type Slot = Option<Entry>;
 pub fn holds(slot: &Slot, prefix: &Prefix) -> bool
     ensures { result ≡ holding (row_of prefix.now) slot.now }
 {
-    slot.is_some_and(|entry| *prefix == entry.prefix)
+    match slot {
+        Some(entry) => *prefix == entry.prefix,
+        None => false,
+    }
 }
 
 // The hop in a slot, or none where the slot is free or not there.

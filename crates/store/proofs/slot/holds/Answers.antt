@@ -2,5 +2,5 @@ use Rattle.std.proofs.Common.{rules}
 use Rattle.net.proofs.Prefixes.{equal_by_row}
 use Rattle.store.proofs.slot.holds.Goals as goal
 
-pub returns : goal.returns
-returns c = search (rules, equal_by_row)
+pub returns-in-Some : goal.returns-in-Some
+returns-in-Some c = search (rules, equal_by_row)
