@@ -26,6 +26,9 @@ kept_same xs = record { slots = λ n u. refl; shapes = λ e t h. h }
 pub kept_by_slots : (xs ys : List Vertex) → ((n : ℕ) → used (at xs n) ≡ true → at ys n ≡ at xs n) → Kept xs ys
 kept_by_slots xs ys keep = record { slots = keep; shapes = λ e t h. unfolds_kept ys keep h }
 
+pub kept_set : (xs : List Vertex) (n : ℕ) (z o : Edge) → n < length xs → used (at xs n) ≡ false → Kept xs (set xs n (linked z o))
+kept_set xs n z o inside free = kept_by_slots xs (set xs n (linked z o)) (added_keeps xs n z o inside free)
+
 -- what `fork` leaves, where the edges zero and one are taken for z and o
 module _ (xs : List Vertex) (zero one z o : Edge) (to_zero : z ≡ led xs zero) (to_one : o ≡ led xs one) where
   pub found : (n : ℕ) → Has xs n z o → (a b : Shape) → Unfolds xs (led xs zero) a → Unfolds xs (led xs one) b → Made xs xs (fork a b) (To n)
@@ -58,7 +61,7 @@ module _ (xs : List Vertex) (zero one z o : Edge) (to_zero : z ≡ led xs zero) 
       inside = omega (arith, place.0)
 
       pub kept_made : Kept xs (set xs n v)
-      kept_made = rw is (kept_by_slots xs (set xs n (linked z o)) (added_keeps xs n z o inside place.1))
+      kept_made = rw is (kept_set xs n z o inside place.1)
 
       pub made : (a b : Shape) → Unfolds xs (led xs zero) a → Unfolds xs (led xs one) b → Made xs (set xs n v) (fork a b) (To n)
       made a b l r = rw is (record {

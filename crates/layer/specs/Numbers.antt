@@ -25,7 +25,7 @@ no_repeats_both (x ∷ xs) ys a b c =
     let new = a.0 in
     (grind arith, no_repeats_both xs ys a.1 b (λ q h. c q (grind arith)))
 
-joined_counted : (xs : List Slot) (c : Content) → Apart xs → ((q : Bits) → present (told_in xs q) ≡ true → c.map q ≡ absent) → Counted c.map c.held → Counted (layer_content xs c).map (layer_content xs c).held
+pub joined_counted : (xs : List Slot) (c : Content) → Apart xs → ((q : Bits) → present (told_in xs q) ≡ true → c.map q ≡ absent) → Counted c.map c.held → Counted (layer_content xs c).map (layer_content xs c).held
 joined_counted xs c apart separate counted = ∥∥₁_map counted λ (ys, l). (rows xs ++ ys, both ys l)
   where
     both : (ys : List Bits) → Listed c.map c.held ys → Listed (layer_content xs c).map (layer_content xs c).held (rows xs ++ ys)
