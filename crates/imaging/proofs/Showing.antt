@@ -1,5 +1,5 @@
 -- An image of an engine's graph, while routes stand. Assumes nothing.
-use Rattle.std.proofs.Common.{◌≡◌, ℕ, ◌≤◌, List, length, take, None, Ok, Err, Result, sym, ap, ◌∙◌, subst, arith}
+use Rattle.std.proofs.Common.{◌≡◌, ℕ, ◌≤◌, List, length, take, Some, None, Ok, Err, Option, Result, sym, ap, ◌∙◌, subst, arith}
 use Rattle.std.proofs.lemmas.List.{nil_from_length}
 use Rattle.std.proofs.lemmas.Bool.Decides.{nat_tests}
 use Rattle.std.proofs.lemmas.Option.{none-some}
@@ -71,3 +71,13 @@ module _ (g : Given) (rs : Routes) (e : State) (sound : ∥ Sound e.slots ∥₁
     walked_found a leaves i (Err why) wide is same (walk, broken) =
         let (d, at) = leaf_depth e.width rs at_most a wide in
         absurd (none-some d (sym walk ∙ ap (λ j. image_walk j a) is ∙ (shows_is.leaves a wide d).1 at))
+
+-- the rows that an image was made in have room for it
+pub never_refused : (es fs ms ns : List ℕ) (s V : ℕ) (why : Refusal) → length fs ≡ length es → length ns ≡ length ms → rows_refusal es ms s V ≡ None → rows_refusal fs ns s V ≡ Some why → ⊥
+never_refused es fs ms ns s V why e m granted refused = apart (sym alike ∙ refused)
+  where
+    alike : rows_refusal fs ns s V ≡ None
+    alike = rw (e, m) granted
+
+    apart : ◌≡◌ {A = Option Refusal} None (Some why) → ⊥
+    apart h = let z : ◌≡◌ {A = ℕ} 0 1 = cc in omega arith
