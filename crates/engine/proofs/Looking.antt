@@ -21,12 +21,25 @@ use Rattle.engine.specs.State.{State}
 use Rattle.engine.specs.Calls.{Answers}
 use Rattle.engine.specs.Serves.{Serves}
 
--- the walk's end is the address's leaf, whose entry is the address's longest match
-pub at_depth : (rs : Routes) (slots : List Vertex) (start : Edge) (a : Bits) → AtMost (length a) rs → Unfolds slots start (pushed rs) → (d : ℕ) → Some d ≡ walk (out slots) (way (led slots start)) a → leaf_entry rs (take d a) ≡ hop_of (longest rs a)
-at_depth rs slots start a short starts d h =
-    let w : walk (out slots) (way start) a ≡ Some d = ap (λ e. walk (out slots) (way e) a) (sym (led_unfolds starts)) ∙ sym h in
-    let l = (reads_end_at_leaves (length a) rs short (graph_of slots start) (reads_of_unfolds starts) a refl d).0 w in
-    found_at_leaf rs a (take d a) ((leaf_at rs a d).0 l).1 (take_begins d a)
+module _ (rs : Routes) (slots : List Vertex) (start : Edge) (a : Bits) (short : AtMost (length a) rs) (starts : Unfolds slots start (pushed rs)) where
+  -- the walk's end is the address's leaf, whose entry is the address's longest match
+  pub at_depth : (d : ℕ) → Some d ≡ walk (out slots) (way (led slots start)) a → leaf_entry rs (take d a) ≡ hop_of (longest rs a)
+  at_depth d h =
+      let w : walk (out slots) (way start) a ≡ Some d = ap (λ e. walk (out slots) (way e) a) (sym (led_unfolds starts)) ∙ sym h in
+      let l = (reads_end_at_leaves (length a) rs short (graph_of slots start) (reads_of_unfolds starts) a refl d).0 w in
+      found_at_leaf rs a (take d a) ((leaf_at rs a d).0 l).1 (take_begins d a)
+
+  -- it has one
+  pub always_ends : None ≡ walk (out slots) (way (led slots start)) a → ⊥
+  always_ends h =
+      let (d, l) = leaf_depth (length a) rs short a refl in
+      let w = (reads_end_at_leaves (length a) rs short (graph_of slots start) (reads_of_unfolds starts) a refl d).1 l in
+      let same : walk (out slots) (way (led slots start)) a ≡ Some d = ap (λ e. walk (out slots) (way e) a) (led_unfolds starts) ∙ w in
+      let no : ◌≡◌ {A = Option ℕ} None (Some d) = h ∙ same in
+      let z : ◌≡◌ {A = ℕ} 0 1 = cc in zero_one z
+    where
+      zero_one : ◌≡◌ {A = ℕ} 0 1 → ⊥
+      zero_one z = omega arith
 
 module _ (g : Given) (rs : Routes) (s : State) (a : Bits) (serves : Serves g rs s) (long : length a ≡ s.width) where
   short : AtMost (length a) rs
@@ -35,17 +48,8 @@ module _ (g : Given) (rs : Routes) (s : State) (a : Bits) (serves : Serves g rs 
   pub found : (d : ℕ) → Some d ≡ walk (out s.slots) (way (led s.slots s.start)) a → (q : Bits) → q ≡ take d a → (o : Option ℕ) → o ≡ s.leaves.map q → Answers g rs (lookup a) (looked o)
   found d ends q front o told = ap looked (sym (at_depth rs s.slots s.start a short serves.starts d ends) ∙ sym (serves.stored.leaf_hops (take d a)) ∙ ap s.leaves.map (sym front) ∙ sym told)
 
-  -- it has one
-  pub always_ends : None ≡ walk (out s.slots) (way (led s.slots s.start)) a → ⊥
-  always_ends h =
-      let (d, l) = leaf_depth (length a) rs short a refl in
-      let w = (reads_end_at_leaves (length a) rs short (graph_of s.slots s.start) (reads_of_unfolds serves.starts) a refl d).1 l in
-      let same : walk (out s.slots) (way (led s.slots s.start)) a ≡ Some d = ap (λ e. walk (out s.slots) (way e) a) (led_unfolds serves.starts) ∙ w in
-      let no : ◌≡◌ {A = Option ℕ} None (Some d) = h ∙ same in
-      let z : ◌≡◌ {A = ℕ} 0 1 = cc in zero_one z
-    where
-      zero_one : ◌≡◌ {A = ℕ} 0 1 → ⊥
-      zero_one z = omega arith
+  pub lookup_ends : None ≡ walk (out s.slots) (way (led s.slots s.start)) a → ⊥
+  lookup_ends = always_ends rs s.slots s.start a short serves.starts
 
 -- no route, no entry
 pub no_entries : (q : Bits) → leaf_entry [] q ≡ None

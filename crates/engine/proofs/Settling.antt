@@ -150,6 +150,23 @@ module _ (g : Given) (rs : Routes) (a : Bits) (n : ℕ) (p : Bits) (row : p ≡ 
       subst (λ q. ledger.Sound g (struck rs q)) (sym row)
       (withdraw_sound g rs a n sound (withdraw_known g rs a n right (standing_here true s) ∙ subst (λ q. fold_checks rs (struck rs q) ≡ None) row none))
 
+  -- how the change settles, by the checks that are left
+  module _ (s t : State) (r : Result ℕ Refusal) where
+    pub enters_turn : (h : ℕ) → bad_hop h ≡ false → stands rs p ≡ false → Settles g (decided (room_checks g rs (entered rs p h)) rs (entered rs p h)) s t r → Settles g (turn g rs (announce a n h)) s t r
+    enters_turn h good new settles =
+        subst (λ o. Settles g (decided o rs (entered rs (take n a) h)) s t r) (sym (announce_new g rs a n right h good (standing_here false new)))
+        (subst (λ q. Settles g (decided (room_checks g rs (entered rs q h)) rs (entered rs q h)) s t r) row settles)
+
+    pub rehops_turn : (h : ℕ) → bad_hop h ≡ false → stands rs p ≡ true → Settles g (decided None rs (entered rs p h)) s t r → Settles g (turn g rs (announce a n h)) s t r
+    rehops_turn h good there settles =
+        subst (λ o. Settles g (decided o rs (entered rs (take n a) h)) s t r) (sym (announce_standing g rs a n right h good (standing_here true there)))
+        (subst (λ q. Settles g (decided None rs (entered rs q h)) s t r) row settles)
+
+    pub strikes_turn : stands rs p ≡ true → Settles g (decided (fold_checks rs (struck rs p)) rs (struck rs p)) s t r → Settles g (turn g rs (withdraw a n)) s t r
+    strikes_turn there settles =
+        subst (λ o. Settles g (decided o rs (struck rs (take n a))) s t r) (sym (withdraw_known g rs a n right (standing_here true there)))
+        (subst (λ q. Settles g (decided (fold_checks rs (struck rs q)) rs (struck rs q)) s t r) row settles)
+
   pub unknown_by : stands rs p ≡ false → withdraw_checks g rs a n ≡ Some Unknown
   unknown_by s = withdraw_unknown g rs a n right (standing_here false s)
 
@@ -244,52 +261,31 @@ module _ (g : Given) (rs : Routes) (s : State) (serves : Serves g rs s) (a : Bit
       standing : (b : Bool) → is_some told ≡ b → stands rs p ≡ b
       standing b is = told_stands g rs s serves.stored p told b get is
 
-      standing_row : (b : Bool) → is_some told ≡ b → stands rs (take n a) ≡ b
-      standing_row b is = ap (stands rs) (sym row) ∙ standing b is
-
       pub unknown_refused : is_some told ≡ false → Settles g (turn g rs (withdraw a n)) s s (Err Unknown)
       unknown_refused away =
           refused_by g rs (struck rs (take n a)) s s (withdraw_checks g rs a n) Unknown (unknown_by g rs a n p row right (standing false away)) serves refl
 
       module _ (t : State) (r : Result ℕ Refusal) where
-        pub strikes_turn : is_some told ≡ true → Strikes p s t r → Settles g (turn g rs (withdraw a n)) s t r
-        strikes_turn there strikes =
-            subst (λ o. Settles g (decided o rs (struck rs (take n a))) s t r) (sym known)
-            (subst (λ q. Settles g (decided (fold_checks rs (struck rs q)) rs (struck rs q)) s t r) row
-            (strikes g rs (record { serves = serves; sound = sound }) (standing true there)))
-          where
-            known : withdraw_checks g rs a n ≡ fold_checks rs (struck rs (take n a))
-            known = withdraw_known g rs a n right (standing_row true there)
+        pub strikes_told : is_some told ≡ true → Strikes p s t r → Settles g (turn g rs (withdraw a n)) s t r
+        strikes_told there strikes =
+            strikes_turn g rs a n p row right s t r (standing true there)
+            (strikes g rs (record { serves = serves; sound = strike_sound g rs a n p row right (standing true there) serves.ledger }) (standing true there))
 
-            sound : fold_checks rs (struck rs p) ≡ None → ledger.Sound g (struck rs p)
-            sound none = strike_sound g rs a n p row right (standing true there) serves.ledger none
-
-        pub enters_turn : (h : ℕ) → bad_hop h ≡ false → is_some told ≡ false → Enters p h s t r → Settles g (turn g rs (announce a n h)) s t r
-        enters_turn h good away enters =
-            subst (λ o. Settles g (decided o rs (entered rs (take n a) h)) s t r) (sym new)
-            (subst (λ q. Settles g (decided (room_checks g rs (entered rs q h)) rs (entered rs q h)) s t r) row
-            (enters g rs (record { serves = serves; sound = sound }) (standing false away)))
-          where
-            new : announce_checks g rs a n h ≡ room_checks g rs (entered rs (take n a) h)
-            new = announce_new g rs a n right h good (standing_row false away)
-
-            sound : room_checks g rs (entered rs p h) ≡ None → ledger.Sound g (entered rs p h)
-            sound none = enter_sound g rs a n p row right h good (standing false away) serves.ledger none
+        pub enters_told : (h : ℕ) → bad_hop h ≡ false → is_some told ≡ false → Enters p h s t r → Settles g (turn g rs (announce a n h)) s t r
+        enters_told h good away enters =
+            enters_turn g rs a n p row right s t r h good (standing false away)
+            (enters g rs (record { serves = serves; sound = enter_sound g rs a n p row right h good (standing false away) serves.ledger }) (standing false away))
 
       -- a standing route gets another hop
-      pub rehops_turn : (t : State) (h : ℕ) (spot : Spot) → bad_hop h ≡ false → is_some told ≡ true → Descends s.slots s.start p spot
+      pub rehops_told : (t : State) (h : ℕ) (spot : Spot) → bad_hop h ≡ false → is_some told ≡ true → Descends s.slots s.start p spot
           → t ≡ rewritten s t.routes t.leaves → SetsAt p spot.edge h s t → Settles g (turn g rs (announce a n h)) s t (Ok 0)
-      rehops_turn t h spot good there descends rest sets =
-          subst (λ o. Settles g (decided o rs (entered rs (take n a) h)) s t (Ok 0)) (sym free)
-          (subst (λ q. Settles g (decided None rs (entered rs q h)) s t (Ok 0)) row
+      rehops_told t h spot good there descends rest sets =
+          rehops_turn g rs a n p row right s t (Ok 0) h good (standing true there)
           (granted_by g rs (entered rs p h) s t None 0 refl (sym (nothing_new rs (entered rs p h) tree))
           (serves_still g s t rs (entered rs p h) rest tree sound serves
           (sets g rs (record { before = serves.ledger; after = sound; stored = serves.stored }) node
-          (node_edge s.slots (pushed rs) p spot (descends (pushed rs) (taken serves.starts)) node)))))
+          (node_edge s.slots (pushed rs) p spot (descends (pushed rs) (taken serves.starts)) node))))
         where
-          free : announce_checks g rs a n h ≡ None
-          free = announce_standing g rs a n right h good (standing_row true there)
-
           node : has_node (pushed rs) p ≡ true
           node = standing_node rs p (standing true there)
 

@@ -22,7 +22,7 @@ use Rattle.layer.specs.declared.place.Place.TheVariants.{Bucket}
 use Rattle.layer.specs.declared.place.Place.TheVariants as place
 use Rattle.layer.specs.Buckets.{fill, near, astray, strays_in, choice}
 use Rattle.layer.specs.Layers.{joined, layer_content}
-use Rattle.layer.specs.Numbers.{joined_counted}
+use Rattle.layer.specs.Numbers.{sound_within}
 use Rattle.layer.specs.Places.{place_of, Stay, Placed, Lands, PutPlaces}
 use Rattle.layer.proofs.Buckets.{fill_free, choice_near, free_astray, strays_set, strays_none, astray_held}
 use Rattle.layer.proofs.Writes.{own_wrote, own_places, own_separate, own_apart, below_wrote, below_places, below_separate}
@@ -269,6 +269,6 @@ emptied f n d empty =
 pub emptied_as : (f : Prefix → ℕ → ℕ) (n : ℕ) (xs : List Slot) → xs ≡ replicate n None → (d : Content) → Sound d → Empty d → (Layered f xs 0 d × Sound (layer_content xs d)) × Empty (layer_content xs d)
 emptied_as f n xs e d below empty =
     let (kept, none) = subst (λ ys. Layered f ys 0 d × Empty (layer_content ys d)) (sym e) (emptied f n d empty) in (
-      (kept, record { within = omega (arith, none.number); most = omega arith; counted = joined_counted xs d kept.apart kept.separate below.counted }),
+      (kept, sound_within xs d kept.apart kept.separate (omega (arith, none.number)) below),
       none,
     )

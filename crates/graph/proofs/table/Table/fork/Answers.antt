@@ -1,6 +1,6 @@
 use Rattle.std.proofs.Common.{rules}
 use Rattle.graph.proofs.Count.{length_in_use, tally_at_most}
-use Rattle.graph.proofs.Forking.{found, refused, kept_made, made, counted_made, sound_made}
+use Rattle.graph.proofs.Forking.{found, refused, kept_made, made, made_counted, made_sound}
 use Rattle.graph.proofs.table.Table.fork.Goals as goal
 
 pub overflow_add-self : goal.overflow_add-self
@@ -18,13 +18,13 @@ pub invariant_of-self-clause-counted : goal.invariant_of-self-clause-counted
 invariant_of-self-clause-counted c =
     let table = c.args.self.now in
     let slot = c.in-Some-find_free in
-    counted_made table.slots c.args.zero c.args.one _ _ c.lead-zero.ensures c.lead-one.ensures table.sound table.long c.in_default.ensures slot.n slot.ensures _ c.link.ensures table.used table.counted
+    made_counted table.slots c.args.zero c.args.one _ _ c.lead-zero.ensures c.lead-one.ensures table.sound table.long c.in_default.ensures slot.n slot.ensures _ c.link.ensures table.used table.counted
 
 pub invariant_of-self-clause-sound : goal.invariant_of-self-clause-sound
 invariant_of-self-clause-sound c =
     let table = c.args.self.now in
     let slot = c.in-Some-find_free in
-    sound_made table.slots c.args.zero c.args.one _ _ c.lead-zero.ensures c.lead-one.ensures table.sound table.long c.in_default.ensures slot.n slot.ensures _ c.link.ensures
+    made_sound table.slots c.args.zero c.args.one _ _ c.lead-zero.ensures c.lead-one.ensures table.sound table.long c.in_default.ensures slot.n slot.ensures _ c.link.ensures
 
 pub returns-clause-kept : goal.returns-clause-kept
 returns-clause-kept c =
