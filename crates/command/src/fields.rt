@@ -16,7 +16,7 @@ impl<'a> Fields<'a> {
     ghost use Rattle.std.specs.Prelude.{◌≡◌};
     ghost use Rattle.text.specs.Fields.{fields};
     ghost use Rattle.command.specs.Command.{placed};
-    ghost use Rattle.command.specs.Left.{left};
+    ghost use Rattle.command.specs.Left.{left, Done};
 
     pub(crate) fn new(line: &'a [u8]) -> Fields<'a>
         ensures { left result ≡ placed 1 (fields line.now) }
@@ -25,6 +25,13 @@ impl<'a> Fields<'a> {
             rest: Some(line),
             column: 1,
         }
+    }
+
+    // Whether no field is left. The bytes of the last one are not looked at.
+    pub(crate) fn is_done(&self) -> bool
+        ensures { Done self.now result }
+    {
+        self.rest.is_none()
     }
 }
 

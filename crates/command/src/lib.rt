@@ -42,19 +42,12 @@ pub fn read(line: &[u8]) -> Option<Command<'_>>
     let [letter] = first.bytes else {
         return None;
     };
-    match (
-        char::from(*letter),
-        fields.next(),
-        fields.next(),
-        fields.next(),
-        fields.next(),
-    ) {
-        ('A', Some(address), Some(len), Some(hop), None) => {
-            Some(Command::Announce(address, len, hop))
-        }
-        ('W', Some(address), Some(len), None, None) => Some(Command::Withdraw(address, len)),
-        ('L', Some(address), None, None, None) => Some(Command::Lookup(address)),
-        ('Q', None, None, None, None) => Some(Command::Count),
-        _ => None,
-    }
+    let command = match char::from(*letter) {
+        'A' => Command::Announce(fields.next()?, fields.next()?, fields.next()?),
+        'W' => Command::Withdraw(fields.next()?, fields.next()?),
+        'L' => Command::Lookup(fields.next()?),
+        'Q' => Command::Count,
+        _ => return None,
+    };
+    fields.is_done().then_some(command)
 }

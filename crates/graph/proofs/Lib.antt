@@ -3,6 +3,7 @@ pub mod Edges
 pub mod Unfold
 pub mod Count
 pub mod Added
+pub mod Finding
 pub mod Forking
 pub mod View
 pub mod Depth

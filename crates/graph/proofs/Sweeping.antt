@@ -1,27 +1,78 @@
 -- The sweep: a loop over the slots, and the sound table that it leaves. Assumes nothing.
-use Rattle.std.proofs.Common.{◌≡◌, ℕ, ◌<◌, ◌≤◌, Bool, true, false, cond, ◌⊎◌, List, length, replicate, sym, ap, ◌∙◌, subst, inl, inr, arith}
+use Rattle.std.proofs.Common.{◌≡◌, ℕ, ◌+◌, ◌<◌, ◌≤◌, Bool, true, false, cond, ◌⊎◌, List, length, take, set, replicate, sym, ap, ◌∙◌, subst, inl, inr, arith, length-set}
 use mathlib.Core.Logic.{∥∥₁_elim, ∥∥₁_map}
 use mathlib.Core.List.Memᴰ
 use mathlib.Core.List.{Mem, Memᴰ}
 use mathlib.Core.HLevel.{Unit-prop, ×_prop}
 use mathlib.Core.Bool.{Bool-set}
 use lib.ListN.{length-replicate}
-use Rattle.std.proofs.lemmas.Bool.{cases_Bool, cases_lt, both_ways, cond-true, cond-false}
-use Rattle.std.proofs.lemmas.List.{get_or_past, get_or-replicate}
+use Rattle.std.proofs.lemmas.Bool.{cases_Bool, cases_eq, cases_lt, both_ways, cond-true, cond-false}
+use Rattle.std.proofs.lemmas.List.{get_or-set_same, get_or-set_other, get_or_past, get_or-replicate, take_more_set, take_all}
 use Rattle.tree.specs.Tree.{Shape, shapes}
-use Rattle.graph.specs.Slots.{used, zero_of, one_of, blank, at, Unfolds, unfolds_end, unfolds_to, Leads, Sound}
+use Rattle.graph.specs.Slots.{used, zero_of, one_of, blank, at, Unfolds, unfolds_end, unfolds_to, Leads, Sound, in_use}
 use Rattle.graph.specs.Keep.{depth, marked, Marks, Whole, Reached, Swept, KeptOnly}
 use Rattle.graph.specs.declared.edge.Edge.{Edge}
 use Rattle.graph.specs.declared.edge.Edge.TheVariants.{End, To}
 use Rattle.graph.specs.declared.vertex.Vertex.{Vertex}
 use Rattle.graph.proofs.Unfold.{EdgesOnce, edges_once, shapes_once, sides_lead, unfolds_once, unfolds_of_leads}
+use Rattle.graph.proofs.Count.{tally, tally_push, tally_one_more, length_in_use}
 use Rattle.graph.proofs.Depth.{depth_bound}
 
--- the first i slots are swept
-pub record Sweeping (xs : List Vertex) (ms : List Bool) (i : ℕ) (ys : List Vertex) : Type 0 where
+-- the first i slots are swept, and n of them are in use
+pub record Sweeping (xs : List Vertex) (ms : List Bool) (i n : ℕ) (ys : List Vertex) : Type 0 where
   pub long : length ys ≡ 2048
   pub done : (k : ℕ) → k < i → at ys k ≡ cond (marked ms k) (at xs k) blank
   pub rest : (k : ℕ) → i ≤ k → at ys k ≡ at xs k
+  pub count : n ≡ tally (take i ys)
+  pub few : n ≤ i
+
+module _ (xs : List Vertex) (ms : List Bool) (i n : ℕ) (ys : List Vertex) where
+  pub sweep_free : Sweeping xs ms i n ys → i < 2048 → marked ms i ≡ false → Sweeping xs ms (i + 1) n (set ys i blank)
+  sweep_free s less m = record {
+    long = length-set ys i blank ∙ s.long;
+    done = λ k h. done k h (cases_eq k i);
+    rest = λ k h. get_or-set_other ys i k blank blank (omega arith) ∙ s.rest k (omega arith);
+    count = s.count ∙ omega (arith, tally_push (take i ys) blank, ap tally (take_more_set ys i blank (omega (arith, s.long))));
+    few = omega (arith, s.few);
+  }
+    where
+      done : (k : ℕ) → k < i + 1 → (k ≡ i) ⊎ (k ≡ i → ⊥) → at (set ys i blank) k ≡ cond (marked ms k) (at xs k) blank
+      done k h (inl e) = ap (at (set ys i blank)) e ∙ get_or-set_same ys i blank blank (omega (arith, s.long)) ∙ sym (cond-false (marked ms k) (at xs k) blank (ap (marked ms) e ∙ m))
+      done k h (inr apart) = get_or-set_other ys i k blank blank apart ∙ s.done k (omega arith)
+
+  pub sweep_keep : Sweeping xs ms i n ys → i < 2048 → marked ms i ≡ true → Sweeping xs ms (i + 1) (n + cond (used (at ys i)) 1 0) ys
+  sweep_keep s less m = record {
+    long = s.long;
+    done = λ k h. done k h (cases_eq k i);
+    rest = λ k h. s.rest k (omega arith);
+    count = omega (arith, s.count, tally_one_more ys i (omega (arith, s.long)));
+    few = few (used (at ys i));
+  }
+    where
+      few : (b : Bool) → n + cond b 1 0 ≤ i + 1
+      few true = omega (arith, s.few)
+      few false = omega (arith, s.few)
+
+      done : (k : ℕ) → k < i + 1 → (k ≡ i) ⊎ (k ≡ i → ⊥) → at ys k ≡ cond (marked ms k) (at xs k) blank
+      done k h (inl e) = s.rest k (omega arith) ∙ sym (cond-true (marked ms k) (at xs k) blank (ap (marked ms) e ∙ m))
+      done k h (inr apart) = s.done k (omega arith)
+
+  pub sweep_all : Sweeping xs ms i n ys → 2048 ≤ i → length xs ≡ 2048 → Swept xs ms ys
+  sweep_all s end long k = elim (cases_lt k 2048) [
+    | inl h ↦ s.done k (omega arith)
+    | inr h ↦ past (marked ms k) (get_or_past ys k blank (omega (arith, s.long))) (get_or_past xs k blank (omega arith))
+  ]
+    where
+      past : (b : Bool) → at ys k ≡ blank → at xs k ≡ blank → at ys k ≡ cond b (at xs k) blank
+      past true p q = p ∙ sym q
+      past false p q = p
+
+  pub sweep_count : Sweeping xs ms i n ys → 2048 ≤ i → n ≡ length (in_use ys)
+  sweep_count s end = s.count ∙ ap tally (take_all i ys (omega (arith, s.long))) ∙ sym (length_in_use 0 ys)
+
+-- the same, where the values go by other names
+pub sweep_is : (xs : List Vertex) (ms : List Bool) (i n : ℕ) (ys : List Vertex) (n' : ℕ) (ys' : List Vertex) → n' ≡ n → ys' ≡ ys → Sweeping xs ms i n ys → Sweeping xs ms i n' ys'
+sweep_is xs ms i n ys n' ys' e f s = rw (e, f) s
 
 -- the empty marks
 pub unmarked : (k n : ℕ) → marked (replicate k false) n ≡ true → ⊥

@@ -2,7 +2,9 @@
 --   Has xs n z o       slot n is in use and has the 0-edge z and the 1-edge o
 --   Lacks xs z o       no slot does
 --   Full xs            each slot is in use
-use Rattle.std.specs.Prelude.{◌≡◌, ℕ, ◌<◌, true, List}
+--   Spare xs free      free is a free slot, or none where each is in use
+--   Placed xs z o r    r is the slot that has the edges, or none has and r is a free slot, if there is one
+use Rattle.std.specs.Prelude.{◌≡◌, ℕ, ◌<◌, true, false, List, Option, MatchOption, Result, MatchResult}
 use Rattle.graph.specs.Slots.{linked, used, at}
 use Rattle.graph.specs.declared.edge.Edge.{Edge}
 use Rattle.graph.specs.declared.vertex.Vertex.{Vertex}
@@ -15,3 +17,9 @@ Lacks xs z o = (n : ℕ) → Has xs n z o → ⊥
 
 abbrev pub Full : List Vertex → Type 0
 Full xs = (n : ℕ) → n < 2048 → used (at xs n) ≡ true
+
+abbrev pub Spare : List Vertex → Option ℕ → Type 0
+Spare xs free = MatchOption free (Full xs) (λ n. (n < 2048) × (used (at xs n) ≡ false))
+
+abbrev pub Placed : List Vertex → Edge → Edge → Result ℕ (Option ℕ) → Type 0
+Placed xs z o r = MatchResult r (λ n. Has xs n z o) (λ free. Lacks xs z o × Spare xs free)

@@ -1,25 +1,27 @@
 // The vertex of two edges: found, or made.
-ghost use Rattle.std.specs.Prelude.{◌≡◌, ◌<◌, true, false, MatchOption, cond};
+ghost use Rattle.std.specs.Prelude.{cond};
 ghost use Rattle.graph.specs.Calls.{Kept, Forked};
-ghost use Rattle.graph.specs.Find.{Has, Lacks, Full};
-ghost use Rattle.graph.specs.Slots.{at, used};
+ghost use Rattle.graph.specs.Find.{Placed};
 
 use super::edge::Edge;
 use super::table::Table;
 use refusal::Refusal;
 
 impl Table {
-    // The slot of the vertex with these edges.
-    fn find(&self, zero: Edge, one: Edge) -> Option<usize>
-        ensures { MatchOption result (Lacks self.now.slots zero one) (λ n. Has self.now.slots n zero one) }
+    // The slot of the vertex with these edges; where there is none, the first free slot, if one is free. In one pass.
+    fn place(&self, zero: Edge, one: Edge) -> Result<usize, Option<usize>>
+        ensures { Placed self.now.slots zero one result }
     {
-        self.slots.iter().position(|vertex| vertex.joins(zero, one))
-    }
-
-    fn find_free(&self) -> Option<usize>
-        ensures { MatchOption result (Full self.now.slots) (λ n. (n < 2048) × (used (at self.now.slots n) ≡ false)) }
-    {
-        self.slots.iter().position(|vertex| !vertex.is_used())
+        let mut free = None;
+        for (n, vertex) in self.slots.iter().enumerate() {
+            if vertex.joins(zero, one) {
+                return Ok(n);
+            }
+            if free.is_none() && !vertex.is_used() {
+                free = Some(n);
+            }
+        }
+        Err(free)
     }
 
     // The edge to the vertex with these edges, which is made where there is none.
@@ -29,16 +31,15 @@ impl Table {
     {
         let zero = self.lead(zero);
         let one = self.lead(one);
-        if let Some(n) = self.find(zero, one) {
-            return Ok(Edge::To(n as u16));
+        match self.place(zero, one) {
+            Ok(n) => Ok(Edge::To(n as u16)),
+            Err(Some(n)) => {
+                self.slots[n].link(zero, one);
+                self.used += 1;
+                Ok(Edge::To(n as u16))
+            }
+            Err(None) => Err(Refusal::VerticesFull),
         }
-        // `ok_or` with `?` is as long and no plainer, and its proof has to find the slot's number again.
-        let Some(n) = self.find_free() else {
-            return Err(Refusal::VerticesFull);
-        };
-        self.slots[n].link(zero, one);
-        self.used += 1;
-        Ok(Edge::To(n as u16))
     }
 
     // The same, where one edge goes on below, to the 1 side or the 0 side, and the other leads beside it.

@@ -1,29 +1,28 @@
 // Frees the vertices that an edge does not reach.
-ghost use Rattle.std.specs.Prelude.{◌≡◌, length, count_by};
+ghost use Rattle.std.specs.Prelude.{◌≡◌, length};
 ghost use Rattle.graph.specs.Keep.{Marked, Swept, KeptFrom};
-ghost use Rattle.graph.specs.Slots.{used};
+ghost use Rattle.graph.specs.Slots.{in_use};
 
 use super::edge::Edge;
 use super::table::{SLOTS, Table};
 use super::vertex::Vertex;
 
-// Frees the slots that are not marked. A proof follows slots that are lent through `enumerate`, and loses them through a `zip`.
-fn sweep(slots: &mut [Vertex; SLOTS], marks: &[bool; SLOTS])
+// Frees the slots that are not marked, and says how many stay in use, in one pass. A proof follows slots that are lent through
+// `enumerate`, and loses them through a `zip`.
+fn sweep(slots: &mut [Vertex; SLOTS], marks: &[bool; SLOTS]) -> usize
     ensures swept { Swept slots.old marks.now slots.new }
+    ensures counted { result ≡ length (in_use slots.new) }
     ensures long { length slots.new ≡ 2048 }
 {
+    let mut used = 0;
     for (n, slot) in slots.iter_mut().enumerate() {
         if !marks[n] {
             slot.release();
+        } else if slot.is_used() {
+            used += 1;
         }
     }
-}
-
-// How many slots are in use.
-fn count_used(slots: &[Vertex; SLOTS]) -> usize
-    ensures { result ≡ count_by used slots.now }
-{
-    slots.iter().filter(|vertex| vertex.is_used()).count()
+    used
 }
 
 impl Table {
@@ -53,7 +52,7 @@ impl Table {
         let start = self.lead(start);
         let mut marks = [false; SLOTS];
         self.mark(&mut marks, start, SLOTS);
-        sweep(&mut self.slots, &marks);
-        self.used = count_used(&self.slots);
+        let used = sweep(&mut self.slots, &marks);
+        self.used = used;
     }
 }

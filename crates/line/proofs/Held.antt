@@ -1,5 +1,6 @@
 -- What a buffer holds, and the zeros behind it, after a byte or a text more. Assumes nothing.
-use Rattle.std.proofs.Common.{◌≡◌, ℕ, ◌+◌, ◌-◌, ◌<◌, ◌≤◌, List, [], ◌∷◌, ◌++◌, length, take, drop, set, replicate, sym, ap, ◌∙◌, arith, length-append}
+use Rattle.std.proofs.Common.{◌≡◌, ℕ, zero, suc, ◌+◌, ◌-◌, ◌/◌, ◌%◌, ◌^◌, ◌<◌, ◌≤◌, List, [], ◌∷◌, ◌++◌, length, take, drop, set, replicate, decimal, sym, refl, ap, ◌∙◌, append_assoc, arith, length-append}
+use Rattle.std.proofs.lemmas.Fmt.{decimal_digit, decimal_step, length-decimal-le}
 use borrow.Rule.Slice.PartMut.{put_mid}
 use Rattle.std.proofs.lemmas.List.{length-set, length-drop, drop-drop, drop-replicate, drop-set-lt, take_all, take_at, take_more_set, length-take-le}
 use Rattle.std.proofs.lemmas.Slice.{drop-put_mid}
@@ -43,3 +44,24 @@ text_blank b xs n m h e same room =
       short = room;
       zeros = drop-put_mid b.len n b.bytes xs (b.len + m) (omega arith) (omega (arith, h.long)) e ∙ zeros_behind b m h;
     }
+
+-- a number more, digit by digit
+take_cut : (k : ℕ) (xs ys : List ℕ) → take k (take k xs ++ ys) ≡ take k (xs ++ ys)
+take_cut zero xs ys = refl
+take_cut (suc k) [] ys = refl
+take_cut (suc k) (x ∷ xs) ys = ap (λ zs. x ∷ zs) (take_cut k xs ys)
+
+pub digit_held : (xs : List ℕ) (n : ℕ) → n < 10 → take 81 (xs ++ ((48 + n % 10) ∷ [])) ≡ take 81 (xs ++ decimal n)
+digit_held xs n h =
+    let e : n % 10 ≡ n = omega arith in
+    ap (λ ds. take 81 (xs ++ ds)) (ap (λ k. (48 + k) ∷ []) e ∙ sym (decimal_digit n h))
+
+pub number_held : (xs : List ℕ) (n : ℕ) → 10 ≤ n → n < 2 ^ 64 → take 81 (take 81 (xs ++ decimal (n / 10)) ++ ((48 + n % 10) ∷ [])) ≡ take 81 (xs ++ decimal n)
+number_held xs n h k =
+    take_cut 81 (xs ++ decimal (n / 10)) ((48 + n % 10) ∷ [])
+    ∙ ap (take 81) (append_assoc xs (decimal (n / 10)) ((48 + n % 10) ∷ []))
+    ∙ ap (λ ds. take 81 (xs ++ ds)) (sym (decimal_step n h k))
+
+-- a number of 64 bits has at most 20 digits
+pub digits_few : (n : ℕ) → n < 2 ^ 64 → length (decimal n) ≤ 20
+digits_few n h = length-decimal-le 20 n (omega arith) (omega arith) h

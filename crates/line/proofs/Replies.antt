@@ -5,11 +5,8 @@ use Rattle.refusal.specs.Numbers.{number_of}
 use Rattle.refusal.specs.declared.Refusal.{Refusal}
 use Rattle.refusal.specs.declared.Refusal.TheVariants.{Length, HostBits, Hop, Unknown, RoutesFull, LeavesFull, VerticesFull, StoreFull, Stride, ImageRows, ImageBroken, Line, Field, AnswerRow}
 use Rattle.tree.specs.Ledger.{Answer, changed, hop, none, counts, refused}
+pub use Rattle.line.proofs.Held.{digits_few}
 use Rattle.line.specs.Reply.{column_of, said, written, Few, labelled}
-
--- a number of 64 bits has at most 20 digits
-pub digits_few : (n : ℕ) → n < 2 ^ 64 → length (decimal n) ≤ 20
-digits_few n h = length-decimal-le 20 n (omega arith) (omega arith) h
 
 pub labelled_few : (w : List ℕ) (n : ℕ) → n < 2 ^ 64 → length (labelled w n) ≤ length w + 20
 labelled_few w n h = let e : length (labelled w n) ≡ length w + length (decimal n) = length-append w (decimal n) in omega (arith, digits_few n h)

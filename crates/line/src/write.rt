@@ -1,5 +1,5 @@
 // How an answer is written.
-ghost use Rattle.std.specs.Prelude.{◌≡◌, ◌+◌, ◌<◌, ◌≤◌, ◌++◌, length};
+ghost use Rattle.std.specs.Prelude.{◌≡◌, ◌+◌, ◌<◌, ◌≤◌, ◌++◌, length, take, decimal};
 ghost use Rattle.engine.specs.Calls.{answer_of};
 ghost use Rattle.line.specs.Reply.{column_of, labelled, said, short_number, written, Few, most_held};
 
@@ -49,9 +49,18 @@ impl Buffer {
         ensures says { self.new ≡ self.old ++ labelled word.now n }
         ensures few { short_number n }
     {
-        let mut digits = itoa::Buffer::new();
         self.text(word);
-        self.text(digits.format(n).as_bytes());
+        self.number(n);
+    }
+
+    // A number, in decimal digits; what has no room is let go.
+    fn number(&mut self, n: u64)
+        ensures { self.new ≡ take most_held (self.old ++ decimal n) }
+    {
+        if n >= 10 {
+            self.number(n / 10);
+        }
+        self.push(b'0' + (n % 10) as u8);
     }
 }
 

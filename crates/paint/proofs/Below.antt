@@ -1,15 +1,14 @@
--- The leaves that a node decides lie below it, and none is met twice. Assumes nothing.
-use Rattle.std.proofs.Common.{◌≡◌, Bool, true, false, ◌⊎◌, List, [], ◌∷◌, ◌++◌, sym, refl, ◌∙◌, inl, inr}
+-- The rows that a walk goes through lie below its node, and none is met twice. Assumes nothing.
+use Rattle.std.proofs.Common.{◌≡◌, ◌-◌, Bool, true, false, ◌&&◌, ◌⊎◌, List, [], ◌∷◌, ◌++◌, length, sym, refl, ◌∙◌, inl, inr}
 use Rattle.std.proofs.lemmas.Bool.{cases_Bool, or_cases, or_left, or_parts, or_from, true≢false}
-use Rattle.bits.specs.Lists.{any, only}
+use Rattle.bits.specs.Lists.{any}
 use Rattle.bits.specs.Rows.{Bits, same, begins}
 use Rattle.bits.proofs.Sets.{NoRepeats}
-use Rattle.bits.proofs.Tests.{any_fewer}
 use Rattle.bits.proofs.Members.{any_join, same_self}
 use Rattle.bits.proofs.Begins.{begins_same, begins_shorter, begins_one_side}
 use Rattle.tree.specs.Tree.{Shape, leaf, fork}
 use Rattle.tree.specs.Changes.{painted, unless}
-use Rattle.paint.specs.Reach.{nameable, reached}
+use Rattle.paint.specs.Reach.{nameable, cut, walked}
 
 -- no row is in both
 abbrev Apart : List Bits → List Bits → Type 0
@@ -39,14 +38,6 @@ repeats_join (x ∷ xs) ys (new, h) k apart = (
     fresh : (any (same x) ys ≡ true) ⊎ (any (same x) ys ≡ false) → any (same x) ys ≡ false
     fresh (inl e) = absurd (true≢false (sym (or_left (same x x) (any (same x) xs) (same_self x)) ∙ apart x e))
     fresh (inr e) = e
-
-once_only : (t : Bits → Bool) (xs : List Bits) → NoRepeats same xs → NoRepeats same (only t xs)
-once_only t [] h = tt
-once_only t (x ∷ xs) (new, h) = go (t x) (any_fewer (same x) t xs new) (once_only t xs h)
-  where
-    go : (b : Bool) → any (same x) (only t xs) ≡ false → NoRepeats same (only t xs) → NoRepeats same (elim b [ true ↦ x ∷ only t xs | false ↦ only t xs ])
-    go true new ih = (new, ih)
-    go false new ih = ih
 
 module _ (own : Bits → Bool) where
   -- what painting reaches on a side
@@ -83,6 +74,6 @@ module _ (own : Bits → Bool) where
       (repeats_unless (own (q ++ (true ∷ []))) _ (painted_once b (q ++ (true ∷ []))))
       (sides_apart a b q)
 
-  pub reached_once : (t : Shape) (q : Bits) → NoRepeats same (reached own t q)
-  unfolding reached
-  reached_once t q = once_only nameable (painted own t q) (painted_once t q)
+pub walked_once : (own : Bits → Bool) (t : Shape) (q : Bits) → NoRepeats same (walked own t q)
+unfolding walked
+walked_once own t q = painted_once (λ x. nameable x && own x) (cut (129 - length q) t) q

@@ -1,6 +1,6 @@
 -- Marking rows, one after another. Assumes nothing.
 use Rattle.std.proofs.Common.{◌≡◌, true, false, cond, List, [], ◌∷◌, Some, None, Result, Ok, Err, sym, refl, ap, ◌∙◌, inl, inr, arith}
-use Rattle.std.proofs.lemmas.Bool.{cases_Bool, or_left, or_right, or_parts, true≢false}
+use Rattle.std.proofs.lemmas.Bool.{cases_Bool, or_cases, or_left, or_right, or_parts, true≢false}
 use Rattle.bits.specs.Lists.{any, count}
 use Rattle.bits.specs.Rows.{Bits, same}
 use Rattle.bits.proofs.Members.{any_join, same_self}
@@ -8,8 +8,8 @@ use Rattle.bits.proofs.Tests.{same_is}
 use Rattle.bits.proofs.Sets.{NoRepeats}
 use Rattle.refusal.specs.declared.Refusal.{Refusal}
 use Rattle.store.specs.Content.{Told, Map, Content, Wrote}
-use Rattle.paint.specs.Reach.{has, Visits, visits_none, visits_more, visits_fail}
-use Rattle.paint.specs.Paint.{fair, refusal, Marks, Done, Painted}
+use Rattle.paint.specs.Reach.{has, nameable, Visits, visits_none, visits_more, visits_fail}
+use Rattle.paint.specs.Paint.{fair, due, Marks, Done, Painted}
 
 -- the maps agree on the rows
 count_agree : (m n : Map) (xs : List Bits) → ((q : Bits) → any (same q) xs ≡ true → m q ≡ n q) → count (has m) xs ≡ count (has n) xs
@@ -19,15 +19,19 @@ count_agree m n (x ∷ xs) h =
     let ih = count_agree m n xs (λ q k. h q (or_right (same q x) _ k)) in
     rw (here, ih)
 
-fair_of : (c : Content) (q : Bits) (hop : Told) → refusal c q hop ≡ None → fair hop ≡ true
+-- where no refusal is due, a prefix has the row and the hop is a fair one
+named_of : (c : Content) (q : Bits) (hop : Told) → due c q hop ≡ None → nameable q ≡ true
+named_of c q hop free = grind arith
+
+fair_of : (c : Content) (q : Bits) (hop : Told) → due c q hop ≡ None → fair hop ≡ true
 fair_of c q None free = refl
 fair_of c q (Some h) free = grind arith
 
 pub done_none : (hop : Told) (a : Content) → Done [] hop a a
-done_none hop a = record { limits = refl; rows = λ q. refl; number = omega arith; good = λ q e. absurd (true≢false (sym e)) }
+done_none hop a = record { limits = refl; rows = λ q. refl; number = omega arith; named = λ q e. absurd (true≢false (sym e)); good = λ q e. absurd (true≢false (sym e)) }
 
 -- one row, and then those behind it, which it is not among
-done_more : (x : Bits) (xs : List Bits) (hop : Told) (a m b : Content) → any (same x) xs ≡ false → m.limit ≡ a.limit → refusal a x hop ≡ None → Wrote x hop a m → Done xs hop m b → Done (x ∷ xs) hop a b
+done_more : (x : Bits) (xs : List Bits) (hop : Told) (a m b : Content) → any (same x) xs ≡ false → m.limit ≡ a.limit → due a x hop ≡ None → Wrote x hop a m → Done xs hop m b → Done (x ∷ xs) hop a b
 done_more x xs hop a m b new limits free wrote rest =
     let other : (q : Bits) → any (same q) xs ≡ true → m.map q ≡ a.map q = λ q h. wrote.rows q ∙ ap (λ t. cond t hop (a.map q)) (apart q h) in
     let agree = count_agree m.map a.map xs other in
@@ -37,6 +41,7 @@ done_more x xs hop a m b new limits free wrote rest =
       limits = rest.limits ∙ limits;
       rows = λ q. (let first = wrote.rows q in let then = rest.rows q in grind arith);
       number = grind arith;
+      named = λ q e. elim (or_cases (same q x) _ e) [ inl is ↦ ap nameable (same_is q x is) ∙ named_of a x hop free | inr k ↦ rest.named q k ];
       good = λ q e. fair_of a x hop free;
     }
   where

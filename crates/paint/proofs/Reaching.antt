@@ -1,5 +1,6 @@
--- The leaves that a node decides, side by side, and visits of them. Assumes nothing.
-use Rattle.std.proofs.Common.{◌≡◌, ℕ, zero, suc, ◌+◌, ◌<◌, ◌≤◌, Bool, true, false, List, [], ◌∷◌, ◌++◌, length, slice_index_or, is_some, Result, Ok, Err, refl, ap, ◌∙◌, arith, length-append}
+-- The leaves that a node decides and the rows that a walk goes through, side by side, and visits of these. Assumes nothing.
+use Rattle.std.proofs.Common.{◌≡◌, ℕ, zero, suc, ◌+◌, ◌-◌, ◌<◌, ◌≤◌, Bool, true, false, ◌&&◌, ◌⊎◌, List, [], ◌∷◌, ◌++◌, length, slice_index_or, is_some, Result, Ok, Err, sym, refl, ap, ◌∙◌, inl, inr, arith, length-append}
+use Rattle.std.proofs.lemmas.Bool.{cases_lt}
 use Rattle.std.proofs.lemmas.Bool.Decides.{nat_tests}
 use Rattle.bits.specs.Lists.{only}
 use Rattle.bits.specs.Rows.{Bits}
@@ -11,7 +12,8 @@ use Rattle.graph.specs.declared.edge.Edge.{Edge}
 use Rattle.graph.specs.declared.edge.Edge.TheVariants.{End, To}
 use Rattle.graph.specs.declared.vertex.Vertex.{Vertex}
 use Rattle.graph.proofs.Growing as tree
-use Rattle.paint.specs.Reach.{has, nameable, reached, side, Visits, visits_none, visits_more, visits_fail, Reaches}
+use Rattle.paint.specs.Reach.{has, nameable, reached, side, cut, walked, Visits, visits_none, visits_more, visits_fail, Reaches}
+use Rattle.paint.proofs.Lengths.{nameable_short, nameable_long}
 
 only_join : {A : Type 0} (t : A → Bool) (xs ys : List A) → only t (xs ++ ys) ≡ only t xs ++ only t ys
 only_join t [] ys = refl
@@ -24,6 +26,10 @@ only_join t (x ∷ xs) ys = go (t x) (only_join t xs ys)
 only_unless : (t : Bits → Bool) (b : Bool) (xs : List Bits) → only t (unless b xs) ≡ unless b (only t xs)
 only_unless t true xs = refl
 only_unless t false xs = refl
+
+unless_none : (x : Bool) → unless x [] ≡ []
+unless_none true = refl
+unless_none false = refl
 
 -- visits go on, or end where one fails
 module _ {S E : Type 0} (R : S → Bits → Result (Unit {0}) E → S → Type 0) where
@@ -84,22 +90,13 @@ module _ (own : Bits → Bool) where
       both false true = refl
       both false false = refl
 
-  pub side_covered : (t : Shape) (q : Bits) (b : Bool) → own (q ++ (b ∷ [])) ≡ true → side own t q b ≡ []
-  side_covered t q b covered = rw covered refl
-
-  pub side_free : (t : Shape) (q : Bits) (b : Bool) → own (q ++ (b ∷ [])) ≡ false → side own t q b ≡ reached own t (q ++ (b ∷ []))
-  side_free t q b free = rw free refl
-
-  pub side_deep : (t : Shape) (q : Bits) (b : Bool) → length q ≡ 128 → side own t q b ≡ []
-  side_deep t q b full = ap (unless (own (q ++ (b ∷ [])))) (reached_deep t (q ++ (b ∷ [])) (omega (arith, length-append q (b ∷ [])))) ∙ none (own (q ++ (b ∷ [])))
-    where
-      none : (x : Bool) → unless x [] ≡ []
-      none true = refl
-      none false = refl
+  -- a walk passes this row by: a prefix has it, and it has a route
+  abbrev pub passed : Bits → Bool
+  passed x = nameable x && own x
 
   -- of the tree t below q: the part on one side, and the parts on the first i sides
   abbrev pub half : Shape → Bits → Bool → List Bits
-  half t q b = side own (tree.side b t) q b
+  half t q b = unless (passed (q ++ (b ∷ []))) (walked own (tree.side b t) (q ++ (b ∷ [])))
 
   abbrev pub begun : Shape → Bits → ℕ → List Bits
   begun t q zero = []
@@ -111,45 +108,109 @@ module _ (own : Bits → Bool) where
   begun_more t q (suc zero) b less is = rw is refl
   begun_more t q (suc (suc n)) b less is = absurd (omega arith)
 
+  cut_leaf : (n : ℕ) (q : Bits) → painted passed (cut n leaf) q ≡ q ∷ []
+  unfolding painted
+  cut_leaf zero q = refl
+  cut_leaf (suc n) q = refl
+
+  cut_fork : (n k : ℕ) (a b : Shape) (q : Bits) → n ≡ suc k
+      → painted passed (cut n (fork a b)) q
+      ≡ unless (passed (q ++ (false ∷ []))) (painted passed (cut k a) (q ++ (false ∷ []))) ++ unless (passed (q ++ (true ∷ []))) (painted passed (cut k b) (q ++ (true ∷ [])))
+  unfolding painted
+  cut_fork n k a b q is = rw is refl
+
+  pub walked_leaf : (q : Bits) → walked own leaf q ≡ q ∷ []
+  unfolding walked
+  walked_leaf q = cut_leaf (129 - length q) q
+
+  -- one level down, one is left
+  left_over : (q : Bits) (b : Bool) → length q ≤ 128 → 129 - length q ≡ suc (129 - length (q ++ (b ∷ [])))
+  left_over q b short = let more = length-append q (b ∷ []) in omega arith
+
+  pub walked_fork : (a b : Shape) (q : Bits) → length q ≤ 128 → walked own (fork a b) q ≡ half (fork a b) q false ++ half (fork a b) q true
+  unfolding walked
+  walked_fork a b q short =
+      let same_left : 129 - length (q ++ (true ∷ [])) ≡ 129 - length (q ++ (false ∷ [])) = rw (length-append q (true ∷ []), length-append q (false ∷ [])) refl in
+      rw (cut_fork (129 - length q) (129 - length (q ++ (false ∷ []))) a b q (left_over q false short), same_left) refl
+
+  -- a walk goes no deeper than one bit over 128
+  pub walked_deep : (t : Shape) (q : Bits) → 128 < length q → walked own t q ≡ q ∷ []
+  unfolding walked painted
+  walked_deep t q long = let none : 129 - length q ≡ 0 = omega arith in rw none refl
+
+  pub half_deep : (t : Shape) (q : Bits) (b : Bool) → length q ≡ 128 → half t q b ≡ (q ++ (b ∷ [])) ∷ []
+  half_deep t q b full =
+      let long : 128 < length (q ++ (b ∷ [])) = omega (arith, length-append q (b ∷ [])) in
+      rw (nameable_long (q ++ (b ∷ [])) long) (walked_deep (tree.side b t) (q ++ (b ∷ [])) long)
+
+  pub half_covered : (t : Shape) (q : Bits) (b : Bool) → nameable (q ++ (b ∷ [])) ≡ true → own (q ++ (b ∷ [])) ≡ true → half t q b ≡ []
+  half_covered t q b named covered = rw (named, covered) refl
+
+  pub half_free : (t : Shape) (q : Bits) (b : Bool) → nameable (q ++ (b ∷ [])) ≡ true → own (q ++ (b ∷ [])) ≡ false → half t q b ≡ walked own (tree.side b t) (q ++ (b ∷ []))
+  half_free t q b named free = rw (named, free) refl
+
+  only_leaf : (q : Bits) → only nameable (q ∷ []) ≡ reached own leaf q
+  unfolding reached painted
+  only_leaf q = refl
+
+  -- of the rows that a walk goes through, those that a prefix can have are the leaves that the node decides
+  pub only_walked : (t : Shape) (q : Bits) → only nameable (walked own t q) ≡ reached own t q
+  only_walked leaf q = rw (walked_leaf q) (only_leaf q)
+  only_walked (fork a b) q = go (cases_lt 128 (length q)) (only_walked a (q ++ (false ∷ []))) (only_walked b (q ++ (true ∷ [])))
+    where
+      one : (t : Shape) (x : Bits) → only nameable (walked own t x) ≡ reached own t x → only nameable (unless (passed x) (walked own t x)) ≡ unless (own x) (reached own t x)
+      one t x ih = elim (cases_lt 128 (length x)) [
+        | inl long ↦ rw (nameable_long x long) (ih ∙ reached_deep t x long ∙ sym (ap (unless (own x)) (reached_deep t x long) ∙ unless_none (own x)))
+        | inr short ↦ rw (nameable_short x short, only_unless nameable (own x) (walked own t x), ih) refl
+      ]
+
+      go : (128 < length q) ⊎ (length q ≤ 128) → only nameable (walked own a (q ++ (false ∷ []))) ≡ reached own a (q ++ (false ∷ []))
+          → only nameable (walked own b (q ++ (true ∷ []))) ≡ reached own b (q ++ (true ∷ [])) → only nameable (walked own (fork a b) q) ≡ reached own (fork a b) q
+      go (inl long) left right = rw (walked_deep (fork a b) q long, nameable_long q long, only) (sym (reached_deep (fork a b) q long))
+      go (inr short) left right =
+          rw (walked_fork a b q short, only_join nameable (half (fork a b) q false) (half (fork a b) q true), one a (q ++ (false ∷ [])) left, one b (q ++ (true ∷ [])) right)
+          (sym (reached_fork a b q))
+
 module _ (m : Map) (slots : List Vertex) (q : Bits) {S E : Type 0} (R : S → Bits → Result (Unit {0}) E → S → Type 0) where
   -- the leaves on the first i sides are visited
   abbrev pub Begun : Edge → ℕ → S → Result (Unit {0}) E → S → Type 0
   Begun e i s r s' = (t : Shape) → Unfolds slots e t → Visits R (begun (has m) t q i) s r s'
 
   -- at the end there is one leaf
-  end_to : (s s' : S) (r : Result (Unit {0}) E) → length q ≤ 128 → Visits R (q ∷ []) s r s' → (t : Shape) → Unfolds slots End t → Visits R (reached (has m) t q) s r s'
-  end_to s s' r short h t unfolds_end = rw (reached_leaf (has m) q short) h
+  end_to : (s s' : S) (r : Result (Unit {0}) E) → Visits R (q ∷ []) s r s' → (t : Shape) → Unfolds slots End t → Visits R (walked (has m) t q) s r s'
+  end_to s s' r h t unfolds_end = rw (walked_leaf (has m) q) h
 
-  pub reaches_end : (e : Edge) (s s' : S) (r : Result (Unit {0}) E) → e ≡ End → length q ≤ 128 → Visits R (q ∷ []) s r s' → Reaches m slots e q R s r s'
-  reaches_end e s s' r is short h = rw is (end_to s s' r short h)
+  pub reaches_end : (e : Edge) (s s' : S) (r : Result (Unit {0}) E) → e ≡ End → Visits R (q ∷ []) s r s' → Reaches m slots e q R s r s'
+  reaches_end e s s' r is h = rw is (end_to s s' r h)
 
-  whole_to : (n : ℕ) (s s' : S) (r : Result (Unit {0}) E) → Begun (To n) 2 s r s' → (t : Shape) → Unfolds slots (To n) t → Visits R (reached (has m) t q) s r s'
-  whole_to n s s' r h t u = go u
+  whole_to : (n : ℕ) (s s' : S) (r : Result (Unit {0}) E) → length q ≤ 128 → Begun (To n) 2 s r s' → (t : Shape) → Unfolds slots (To n) t → Visits R (walked (has m) t q) s r s'
+  whole_to n s s' r short h t u = go u
     where
-      go : {t : Shape} → Unfolds slots (To n) t → Visits R (reached (has m) t q) s r s'
-      go (unfolds_to {a} {b} used x y) = rw (reached_fork (has m) a b q) (h (fork a b) (unfolds_to used x y))
+      go : {t : Shape} → Unfolds slots (To n) t → Visits R (walked (has m) t q) s r s'
+      go (unfolds_to {a} {b} used x y) = rw (walked_fork (has m) a b q short) (h (fork a b) (unfolds_to used x y))
 
   -- both sides are all
-  pub reaches_both : (e : Edge) (n i : ℕ) (s s' : S) (r : Result (Unit {0}) E) → e ≡ To n → 2 ≤ i → Begun e i s r s' → Reaches m slots e q R s r s'
-  reaches_both e n zero s s' r is all h = absurd (omega arith)
-  reaches_both e n (suc zero) s s' r is all h = absurd (omega arith)
-  reaches_both e n (suc (suc i)) s s' r is all h = rw is (whole_to n s s' r (rw is at h))
+  pub reaches_both : (e : Edge) (n i : ℕ) (s s' : S) (r : Result (Unit {0}) E) → length q ≤ 128 → e ≡ To n → 2 ≤ i → Begun e i s r s' → Reaches m slots e q R s r s'
+  reaches_both e n zero s s' r short is all h = absurd (omega arith)
+  reaches_both e n (suc zero) s s' r short is all h = absurd (omega arith)
+  reaches_both e n (suc (suc i)) s s' r short is all h = rw is (whole_to n s s' r short (rw is at h))
 
   module _ (e : Edge) (i : ℕ) (b : Bool) (less : i < 2) (side_is : b ≡ slice_index_or (false ∷ true ∷ []) i false) (s s' : S) (h : Begun e i s (Ok tt) s') where
     more : (r : Result (Unit {0}) E) (last : S) (t : Shape) → Unfolds slots e t → Visits R (half (has m) t q b) s' r last → Visits R (begun (has m) t q (i + 1)) s r last
     more r last t u k = rw (begun_more (has m) t q i b less side_is) (visits_then R _ _ s s' last r (h t u) k)
 
-    -- no child is below a node of the full length, and a covered one is passed over
-    pub begun_deep : length q ≡ 128 → Begun e (i + 1) s (Ok tt) s'
-    begun_deep full t u = more (Ok tt) s' t u (rw (side_deep (has m) (tree.side b t) q b full) visits_none)
+    -- a child of a node of 128 bits is visited itself, and a covered one is passed over
+    pub begun_deep : length q ≡ 128 → (r : Result (Unit {0}) E) (last : S) → R s' (q ++ (b ∷ [])) r last → Begun e (i + 1) s r last
+    begun_deep full r last step t u = more r last t u (rw (half_deep (has m) t q b full) (visits_one R _ s' r last step))
 
-    pub begun_covered : has m (q ++ (b ∷ [])) ≡ true → Begun e (i + 1) s (Ok tt) s'
-    begun_covered covered t u = more (Ok tt) s' t u (rw (side_covered (has m) (tree.side b t) q b covered) visits_none)
+    module _ (named : nameable (q ++ (b ∷ [])) ≡ true) where
+      pub begun_covered : has m (q ++ (b ∷ [])) ≡ true → Begun e (i + 1) s (Ok tt) s'
+      begun_covered covered t u = more (Ok tt) s' t u (rw (half_covered (has m) t q b named covered) visits_none)
 
-    module _ (child : Edge) (follows : child ≡ next slots (led slots e) b) (free : has m (q ++ (b ∷ [])) ≡ false) where
-      pub begun_child : (r : Result (Unit {0}) E) (last : S) → Reaches m slots child (q ++ (b ∷ [])) R s' r last → Begun e (i + 1) s r last
-      begun_child r last below t u =
-          more r last t u (rw (side_free (has m) (tree.side b t) q b free) (below (tree.side b t) (rw follows (tree.unfolds_side b (tree.taken u)))))
+      module _ (child : Edge) (follows : child ≡ next slots (led slots e) b) (free : has m (q ++ (b ∷ [])) ≡ false) where
+        pub begun_child : (r : Result (Unit {0}) E) (last : S) → Reaches m slots child (q ++ (b ∷ [])) R s' r last → Begun e (i + 1) s r last
+        begun_child r last below t u =
+            more r last t u (rw (half_free (has m) t q b named free) (below (tree.side b t) (rw follows (tree.unfolds_side b (tree.taken u)))))
 
   -- what fails on a side fails as a whole
   pub begun_fails : (e : Edge) (i : ℕ) (error : E) (s s' : S) → i < 2 → Begun e (i + 1) s (Err error) s' → Begun e 2 s (Err error) s'

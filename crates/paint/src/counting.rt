@@ -10,7 +10,8 @@ use net::Prefix;
 use std::convert::Infallible;
 use store::Store;
 
-// How many of the leaves that painting from `at` reaches have no entry yet. A number over the greatest stays at it.
+// How many of the leaves that painting from `at` reaches have no entry yet. A number over the greatest stays at it. A child of a node of
+// 128 bits has no prefix, and is passed over.
 pub fn count_missing<R: Store, L: Store>(
     routes: &R,
     leaves: &L,
@@ -21,8 +22,10 @@ pub fn count_missing<R: Store, L: Store>(
     ensures { Counts (R.content routes.now).map (L.content leaves.now).map table.now.slots (led table.now.slots edge) (row_of at.now) result }
 {
     let reach = Reach { routes, table };
-    let count_one = |missing: &mut u64, leaf: &Prefix| -> Result<(), Infallible> {
-        *missing = missing.saturating_add(u64::from(leaves.get(leaf).is_none()));
+    let count_one = |missing: &mut u64, leaf: Option<&Prefix>| -> Result<(), Infallible> {
+        if let Some(leaf) = leaf {
+            *missing = missing.saturating_add(u64::from(leaves.get(leaf).is_none()));
+        }
         Ok(())
     };
     let mut missing = 0;

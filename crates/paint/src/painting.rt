@@ -11,6 +11,7 @@ use refusal::Refusal;
 use store::Store;
 
 // Gives the leaf `at` the hop, or takes its entry out.
+#[tactic(auto, using(crate::proofs::Lengths::nameable_row))]
 fn mark<L: Store>(leaves: &mut L, at: &Prefix, hop: Option<u16>) -> Result<(), Refusal>
     ensures { Marks hop (L.content leaves.old) (row_of at.now) result (L.content leaves.new) }
 {
@@ -25,7 +26,7 @@ fn mark<L: Store>(leaves: &mut L, at: &Prefix, hop: Option<u16>) -> Result<(), R
 
 // Gives the hop to every leaf below the node `at`, which the edge leads to, that no longer route covers, or takes their entries out.
 // It goes from the 0 side to the 1 side. The first leaf that the store refuses ends it, with the store's refusal: those before it are
-// painted. A leaf of more than 128 bits has no prefix, and is passed over.
+// painted. A child of a node of 128 bits has no prefix, and ends it the same way, refused for its length.
 pub fn paint<R: Store, L: Store>(
     routes: &R,
     leaves: &mut L,
@@ -39,6 +40,9 @@ pub fn paint<R: Store, L: Store>(
         (L.content leaves.old) (L.content leaves.new) result }
 {
     let reach = Reach { routes, table };
-    let paint_one = |leaves: &mut L, leaf: &Prefix| mark(leaves, leaf, hop);
+    let paint_one = |leaves: &mut L, leaf: Option<&Prefix>| match leaf {
+        Some(leaf) => mark(leaves, leaf, hop),
+        None => Err(Refusal::Length),
+    };
     reach.each_leaf(at, table.lead(edge), leaves, &paint_one)
 }
