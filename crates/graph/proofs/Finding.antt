@@ -1,26 +1,21 @@
--- The search for the vertex of two edges: what a pass over the first i slots has found. Assumes nothing.
-use Rattle.std.proofs.Common.{◌≡◌, ℕ, ◌<◌, ◌≤◌, true, false, List, length, Some, None, Option, MatchOption, Err, ap, arith}
-use Rattle.graph.specs.Slots.{used, at}
-use Rattle.graph.specs.Find.{Has, Lacks, Placed}
+-- The search for the vertex of two edges: no slot has them where neither those before a free slot nor those behind it do. Assumes nothing.
+use Rattle.std.proofs.Common.{◌≡◌, ℕ, ◌+◌, ◌-◌, ◌<◌, false, List, length, take, drop, sym, ap, ◌∙◌, inl, inr, arith}
+use Rattle.std.proofs.lemmas.Bool.{cases_eq, cases_lt, both_ways}
+use Rattle.std.proofs.lemmas.List.{get_or-drop, take_rest}
+use Rattle.graph.specs.Slots.{used, blank, at}
+use Rattle.graph.specs.Find.{Lacks, Suits}
 use Rattle.graph.specs.declared.edge.Edge.{Edge}
 use Rattle.graph.specs.declared.vertex.Vertex.{Vertex}
-use Rattle.graph.proofs.Edges.{used_within}
 
--- the first free slot among them, if there is one
-abbrev pub FreeTo : List Vertex → ℕ → Option ℕ → Type 0
-FreeTo xs i free = MatchOption free ((m : ℕ) → m < i → used (at xs m) ≡ true) (λ n. (n < i) × (used (at xs n) ≡ false))
-
-pub record Looking (xs : List Vertex) (z o : Edge) (i : ℕ) (free : Option ℕ) : Type 0 where
-  pub none : (m : ℕ) → m < i → Has xs m z o → ⊥
-  pub spare : FreeTo xs i free
-
--- a pass over all slots
-pub looked : (xs : List Vertex) (z o : Edge) (i : ℕ) (free : Option ℕ) → length xs ≡ 2048 → 2048 ≤ i → i ≤ 2048 → Looking xs z o i free → Placed xs z o (Err free)
-looked xs z o i free long least most l = (lacks, spare free l.spare)
-  where
-    lacks : Lacks xs z o
-    lacks m h = l.none m (omega (arith, used_within xs m (ap used h))) h
-
-    spare : (o : Option ℕ) → FreeTo xs i o → MatchOption o ((m : ℕ) → m < 2048 → used (at xs m) ≡ true) (λ n. (n < 2048) × (used (at xs n) ≡ false))
-    spare None h = λ m less. h m (omega arith)
-    spare (Some n) h = (omega (arith, h.0), h.1)
+pub lacks_around : (xs : List Vertex) (z o : Edge) (i k : ℕ) → k ≡ length xs - (i + 1) → used (at xs i) ≡ false → ((m : ℕ) → m < i → Suits xs m z o → ⊥)
+    → Lacks (take k (drop (i + 1) xs)) z o → Lacks xs z o
+lacks_around xs z o i k long free before behind n h =
+    elim (cases_lt n i) [
+      | inl less ↦ before n less (inr h)
+      | inr most ↦ elim (cases_eq n i) [
+        | inl e ↦ both_ways (used (at xs i)) free (ap (λ k. used (at xs k)) (sym e) ∙ ap used h)
+        | inr apart ↦ (
+            let place : (i + 1) + (n - (i + 1)) ≡ n = omega arith in
+            behind (n - (i + 1)) (ap (λ l. at (take l (drop (i + 1) xs)) (n - (i + 1))) long ∙ ap (λ ys. at ys (n - (i + 1))) (take_rest xs (i + 1)) ∙ get_or-drop (i + 1) xs (n - (i + 1)) blank ∙ ap (at xs) place ∙ h))
+      ]
+    ]

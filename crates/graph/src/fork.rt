@@ -1,27 +1,43 @@
 // The vertex of two edges: found, or made.
-ghost use Rattle.std.specs.Prelude.{cond};
+ghost use Rattle.std.specs.Prelude.{MatchOption, cond};
 ghost use Rattle.graph.specs.Calls.{Kept, Forked};
-ghost use Rattle.graph.specs.Find.{Placed};
+ghost use Rattle.graph.specs.Find.{Has, Lacks, FirstFit, Placed};
 
 use super::edge::Edge;
 use super::table::Table;
+use super::vertex::Vertex;
 use refusal::Refusal;
 
+// The first of these slots that has the edges.
+fn find(slots: &[Vertex], zero: Edge, one: Edge) -> Option<usize>
+    ensures { MatchOption result (Lacks slots.now zero one) (λ n. Has slots.now n zero one) }
+{
+    slots.iter().position(|vertex| vertex.joins(zero, one))
+}
+
 impl Table {
-    // The slot of the vertex with these edges; where there is none, the first free slot, if one is free. In one pass.
+    // The first slot that is free or has these edges.
+    fn first_fit(&self, zero: Edge, one: Edge) -> Option<usize>
+        ensures { FirstFit self.now.slots zero one result }
+    {
+        self.slots.iter().position(|vertex| vertex.suits(zero, one))
+    }
+
+    // The slot of the vertex with these edges; where there is none, the first free slot, if one is free. In one pass: behind the first
+    // free slot only the vertex itself is looked for.
     fn place(&self, zero: Edge, one: Edge) -> Result<usize, Option<usize>>
         ensures { Placed self.now.slots zero one result }
     {
-        let mut free = None;
-        for (n, vertex) in self.slots.iter().enumerate() {
-            if vertex.joins(zero, one) {
-                return Ok(n);
-            }
-            if free.is_none() && !vertex.is_used() {
-                free = Some(n);
-            }
+        let Some(first) = self.first_fit(zero, one) else {
+            return Err(None);
+        };
+        if self.slots[first].is_used() {
+            return Ok(first);
         }
-        Err(free)
+        match find(&self.slots[first + 1..], zero, one) {
+            Some(further) => Ok(first + 1 + further),
+            None => Err(Some(first)),
+        }
     }
 
     // The edge to the vertex with these edges, which is made where there is none.

@@ -1,5 +1,5 @@
 // A vertex record: a slot of the table, free or with the two edges of a vertex.
-ghost use Rattle.std.specs.Prelude.{◌≡◌, true, ◌↔◌, is_some};
+ghost use Rattle.std.specs.Prelude.{◌≡◌, true, false, ◌↔◌, ◌⊎◌, is_some};
 ghost use Rattle.graph.specs.Slots.{blank, linked, used, side_of};
 
 use super::edge::Edge;
@@ -41,6 +41,13 @@ impl Vertex {
         ensures { (result ≡ true) ↔ (self.now ≡ linked zero one) }
     {
         self.edges == Some(Sides { zero, one })
+    }
+
+    // Free, or with these edges.
+    pub(crate) fn suits(&self, zero: Edge, one: Edge) -> bool
+        ensures { (result ≡ true) ↔ ((used self.now ≡ false) ⊎ (self.now ≡ linked zero one)) }
+    {
+        self.edges.is_none_or(|sides| sides == Sides { zero, one })
     }
 
     // The 0-edge or the 1-edge; of a free slot, the end.
