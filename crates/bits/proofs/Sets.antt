@@ -103,6 +103,9 @@ module _ {A : Type 0} {t : A → A → Bool} (eq : Equality t) where
   pub different_by_members : (xs ys : List A) → Within t xs ys → Within t ys xs → different t xs ≡ different t ys
   different_by_members xs ys there back = omega (arith, different_mono xs ys there, different_mono ys xs back)
 
+  pub different_by_mem : (xs ys : List A) → ((x : A) → Mem x xs ↔ Mem x ys) → different t xs ≡ different t ys
+  different_by_mem xs ys same = different_by_members xs ys (within_of_members xs ys (λ x. (same x).0)) (within_of_members ys xs (λ x. (same x).1))
+
   pub any_append : (p : A → Bool) (xs ys : List A) → any p (xs ++ ys) ≡ (any p xs || any p ys)
   any_append p [] ys = refl
   any_append p (x ∷ xs) ys = let ih = any_append p xs ys in grind arith

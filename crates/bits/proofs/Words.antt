@@ -23,6 +23,9 @@ word_split a (suc b) n =
 pub take_word : (a b n : ℕ) → take a (word (a + b) n) ≡ word a (n / 2 ^ b)
 take_word a b n = rw word_split (take_at _ _ a (length_word a _))
 
+pub drop_word : (a b n : ℕ) → drop a (word (a + b) n) ≡ word b n
+drop_word a b n = rw word_split (drop_at _ _ a (length_word a _))
+
 -- one number of w bits for a row of w bits
 pub word_injective : (w m n : ℕ) → m < 2 ^ w → n < 2 ^ w → word w m ≡ word w n → m ≡ n
 unfolding word

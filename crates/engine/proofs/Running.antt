@@ -46,6 +46,12 @@ module _ (g : l.Given) where
       c : l.Call
       c = call_of row k'
 
+pub all_calls : {F : Type 0} (row : F → Bits) (ts : List (Turn F)) (i : ℕ) → length ts ≤ i → take i (calls_of row ts) ≡ calls_of row ts
+all_calls row ts i past = take_all i (calls_of row ts) (let n = length-map ts (λ t. call_of row t.call) in omega arith)
+
+pub all_answers : {F : Type 0} (ts : List (Turn F)) (i : ℕ) → length ts ≤ i → take i (answers_of ts) ≡ answers_of ts
+all_answers ts i past = take_all i (answers_of ts) (let n = length-map ts (λ t. answer_of t.answer) in omega arith)
+
 -- the turns up to one, and that one
 module _ {F : Type 0} (row : F → Bits) where
   same_calls : (ts : List (Turn F)) (i : ℕ) (d : Turn F) (x : Answer) → calls_of row (set ts i (record { call = (get_or ts i d).call; answer = x })) ≡ calls_of row ts
@@ -86,5 +92,5 @@ module _ {F : Type 0} (row : F → Bits) where
 
     pub all_turns : (s : State) → length ts ≤ i → Ran g (take i (calls_of row first)) (take i (answers_of ts)) s → Ran g (calls_of row first) (answers_of ts) s
     all_turns s past ran =
-        subst (λ cs. Ran g cs (answers_of ts) s) (ap (take i) (sym still) ∙ take_all i (calls_of row ts) (let n = length-map ts (λ t. call_of row t.call) in omega arith) ∙ still)
-        (subst (λ xs. Ran g (take i (calls_of row first)) xs s) (take_all i (answers_of ts) (let n = length-map ts (λ t. answer_of t.answer) in omega arith)) ran)
+        subst (λ cs. Ran g cs (answers_of ts) s) (ap (take i) (sym still) ∙ all_calls row ts i past ∙ still)
+        (subst (λ xs. Ran g (take i (calls_of row first)) xs s) (all_answers ts i past) ran)

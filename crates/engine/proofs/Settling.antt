@@ -66,6 +66,9 @@ no_fold rs ss many = let c = lt-ltb _ _ many in rw c
 pub fold_room : (rs ss : Routes) → together rs ss ≤ vertex_slots → fold_checks rs ss ≡ None
 fold_room rs ss few = let c = le-ltb _ _ few in rw c
 
+pub new_by : (rs ss : Routes) (made : ℕ) → together rs ss ≡ vertices rs + made → made ≡ new_shapes rs ss
+new_by rs ss made e = let t = together_is rs ss in omega arith
+
 -- where the tree stays, its shapes still fit
 pub still_fits : (g : Given) (rs ss : Routes) → ledger.Sound g rs → pushed ss ≡ pushed rs → together rs ss ≤ vertex_slots
 still_fits g rs ss sound e = let t = together_is rs ss in let n = nothing_new rs ss e in let v = sound.vertices_fit in omega arith
@@ -129,6 +132,48 @@ module _ (g : Given) (rs : Routes) (a : Bits) (n : ℕ) where
   pub withdraw_sound : ledger.Sound g rs → withdraw_checks g rs a n ≡ None → ledger.Sound g (struck rs (take n a))
   withdraw_sound sound e = subst (λ o. ledger.Sound g (decided o rs (struck rs (take n a))).0) e (turn_sound g rs sound (withdraw a n))
 
+-- of a prefix p that the address's first n bits are
+module _ (g : Given) (rs : Routes) (a : Bits) (n : ℕ) (p : Bits) (row : p ≡ take n a) (right : refusal_of g.width a n ≡ None) where
+  standing_here : (b : Bool) → stands rs p ≡ b → stands rs (take n a) ≡ b
+  standing_here b s = ap (stands rs) (sym row) ∙ s
+
+  pub enter_sound : (h : ℕ) → bad_hop h ≡ false → stands rs p ≡ false → ledger.Sound g rs → room_checks g rs (entered rs p h) ≡ None → ledger.Sound g (entered rs p h)
+  enter_sound h good new sound none =
+      subst (λ q. ledger.Sound g (entered rs q h)) (sym row)
+      (announce_sound g rs a n h sound (announce_new g rs a n right h good (standing_here false new) ∙ subst (λ q. room_checks g rs (entered rs q h) ≡ None) row none))
+
+  pub rehop_sound : (h : ℕ) → bad_hop h ≡ false → stands rs p ≡ true → ledger.Sound g rs → ledger.Sound g (entered rs p h)
+  rehop_sound h good s sound = subst (λ q. ledger.Sound g (entered rs q h)) (sym row) (announce_sound g rs a n h sound (announce_standing g rs a n right h good (standing_here true s)))
+
+  pub strike_sound : stands rs p ≡ true → ledger.Sound g rs → fold_checks rs (struck rs p) ≡ None → ledger.Sound g (struck rs p)
+  strike_sound s sound none =
+      subst (λ q. ledger.Sound g (struck rs q)) (sym row)
+      (withdraw_sound g rs a n sound (withdraw_known g rs a n right (standing_here true s) ∙ subst (λ q. fold_checks rs (struck rs q) ≡ None) row none))
+
+  -- how the change settles, by the checks that are left
+  module _ (s t : State) (r : Result ℕ Refusal) where
+    pub enters_turn : (h : ℕ) → bad_hop h ≡ false → stands rs p ≡ false → Settles g (decided (room_checks g rs (entered rs p h)) rs (entered rs p h)) s t r → Settles g (turn g rs (announce a n h)) s t r
+    enters_turn h good new settles =
+        subst (λ o. Settles g (decided o rs (entered rs (take n a) h)) s t r) (sym (announce_new g rs a n right h good (standing_here false new)))
+        (subst (λ q. Settles g (decided (room_checks g rs (entered rs q h)) rs (entered rs q h)) s t r) row settles)
+
+    pub rehops_turn : (h : ℕ) → bad_hop h ≡ false → stands rs p ≡ true → Settles g (decided None rs (entered rs p h)) s t r → Settles g (turn g rs (announce a n h)) s t r
+    rehops_turn h good there settles =
+        subst (λ o. Settles g (decided o rs (entered rs (take n a) h)) s t r) (sym (announce_standing g rs a n right h good (standing_here true there)))
+        (subst (λ q. Settles g (decided None rs (entered rs q h)) s t r) row settles)
+
+    pub strikes_turn : stands rs p ≡ true → Settles g (decided (fold_checks rs (struck rs p)) rs (struck rs p)) s t r → Settles g (turn g rs (withdraw a n)) s t r
+    strikes_turn there settles =
+        subst (λ o. Settles g (decided o rs (struck rs (take n a))) s t r) (sym (withdraw_known g rs a n right (standing_here true there)))
+        (subst (λ q. Settles g (decided (fold_checks rs (struck rs q)) rs (struck rs q)) s t r) row settles)
+
+  pub unknown_by : stands rs p ≡ false → withdraw_checks g rs a n ≡ Some Unknown
+  unknown_by s = withdraw_unknown g rs a n right (standing_here false s)
+
+-- whether a route stands, by what its store told
+pub told_stands : (g : Given) (rs : Routes) (s : State) → Stored g rs s → (p : Bits) (o : Option ℕ) (b : Bool) → o ≡ s.routes.map p → is_some o ≡ b → stands rs p ≡ b
+told_stands g rs s stored p o b told is = sym (routes_held rs p) ∙ ap is_some (sym (stored.route_hops p) ∙ sym told) ∙ is
+
 -- a state after its parts have changed
 module _ (g : Given) (s t : State) where
   -- the graph stays, and the stores have the new routes
@@ -189,7 +234,7 @@ module _ (g : Given) (rs ss : Routes) (o : Option Refusal) (s s1 : State) (u : S
     pub drawn_granted : (s2 s3 : State) → o ≡ None → ledger.Sound g ss → s2 ≡ rewritten s1 s2.routes s2.leaves → Stored g ss s2 → Moves s2 s3 d.start → Settles g (decided o rs ss) s s3 (Ok d.made)
     drawn_granted s2 s3 none sound rest stored moves =
         granted_by g rs ss s s3 o d.made none
-        (let t = together_is rs ss in let b : together rs ss ≡ vertices rs + d.made = together_by ∙ drew.number in omega arith)
+        (new_by rs ss d.made (together_by ∙ drew.number))
         (serves_moved g s2 s3 ss d.start moves sound stored (subst (λ x. Unfolds x.slots d.start (pushed ss)) (sym rest) drawn_leads))
 
 -- from the state of the call, and the prefix p that was made, to the call's own words
@@ -214,56 +259,33 @@ module _ (g : Given) (rs : Routes) (s : State) (serves : Serves g rs s) (a : Bit
     module _ (p : Bits) (row : p ≡ take n a) (told : Option ℕ) (get : told ≡ s.routes.map p) where
       -- whether its route stands, by what the store told
       standing : (b : Bool) → is_some told ≡ b → stands rs p ≡ b
-      standing b is = sym (routes_held rs p) ∙ ap is_some (sym (serves.stored.route_hops p) ∙ sym get) ∙ is
-
-      standing_row : (b : Bool) → is_some told ≡ b → stands rs (take n a) ≡ b
-      standing_row b is = ap (stands rs) (sym row) ∙ standing b is
+      standing b is = told_stands g rs s serves.stored p told b get is
 
       pub unknown_refused : is_some told ≡ false → Settles g (turn g rs (withdraw a n)) s s (Err Unknown)
       unknown_refused away =
-          refused_by g rs (struck rs (take n a)) s s (withdraw_checks g rs a n) Unknown (withdraw_unknown g rs a n right (standing_row false away)) serves refl
+          refused_by g rs (struck rs (take n a)) s s (withdraw_checks g rs a n) Unknown (unknown_by g rs a n p row right (standing false away)) serves refl
 
       module _ (t : State) (r : Result ℕ Refusal) where
-        pub strikes_turn : is_some told ≡ true → Strikes p s t r → Settles g (turn g rs (withdraw a n)) s t r
-        strikes_turn there strikes =
-            subst (λ o. Settles g (decided o rs (struck rs (take n a))) s t r) (sym known)
-            (subst (λ q. Settles g (decided (fold_checks rs (struck rs q)) rs (struck rs q)) s t r) row
-            (strikes g rs (record { serves = serves; sound = sound }) (standing true there)))
-          where
-            known : withdraw_checks g rs a n ≡ fold_checks rs (struck rs (take n a))
-            known = withdraw_known g rs a n right (standing_row true there)
+        pub strikes_told : is_some told ≡ true → Strikes p s t r → Settles g (turn g rs (withdraw a n)) s t r
+        strikes_told there strikes =
+            strikes_turn g rs a n p row right s t r (standing true there)
+            (strikes g rs (record { serves = serves; sound = strike_sound g rs a n p row right (standing true there) serves.ledger }) (standing true there))
 
-            sound : fold_checks rs (struck rs p) ≡ None → ledger.Sound g (struck rs p)
-            sound none = subst (λ q. ledger.Sound g (struck rs q)) (sym row) (withdraw_sound g rs a n serves.ledger (known ∙ subst (λ q. fold_checks rs (struck rs q) ≡ None) row none))
-
-        pub enters_turn : (h : ℕ) → bad_hop h ≡ false → is_some told ≡ false → Enters p h s t r → Settles g (turn g rs (announce a n h)) s t r
-        enters_turn h good away enters =
-            subst (λ o. Settles g (decided o rs (entered rs (take n a) h)) s t r) (sym new)
-            (subst (λ q. Settles g (decided (room_checks g rs (entered rs q h)) rs (entered rs q h)) s t r) row
-            (enters g rs (record { serves = serves; sound = sound }) (standing false away)))
-          where
-            new : announce_checks g rs a n h ≡ room_checks g rs (entered rs (take n a) h)
-            new = announce_new g rs a n right h good (standing_row false away)
-
-            sound : room_checks g rs (entered rs p h) ≡ None → ledger.Sound g (entered rs p h)
-            sound none =
-                subst (λ q. ledger.Sound g (entered rs q h)) (sym row)
-                (announce_sound g rs a n h serves.ledger (new ∙ subst (λ q. room_checks g rs (entered rs q h) ≡ None) row none))
+        pub enters_told : (h : ℕ) → bad_hop h ≡ false → is_some told ≡ false → Enters p h s t r → Settles g (turn g rs (announce a n h)) s t r
+        enters_told h good away enters =
+            enters_turn g rs a n p row right s t r h good (standing false away)
+            (enters g rs (record { serves = serves; sound = enter_sound g rs a n p row right h good (standing false away) serves.ledger }) (standing false away))
 
       -- a standing route gets another hop
-      pub rehops_turn : (t : State) (h : ℕ) (spot : Spot) → bad_hop h ≡ false → is_some told ≡ true → Descends s.slots s.start p spot
+      pub rehops_told : (t : State) (h : ℕ) (spot : Spot) → bad_hop h ≡ false → is_some told ≡ true → Descends s.slots s.start p spot
           → t ≡ rewritten s t.routes t.leaves → SetsAt p spot.edge h s t → Settles g (turn g rs (announce a n h)) s t (Ok 0)
-      rehops_turn t h spot good there descends rest sets =
-          subst (λ o. Settles g (decided o rs (entered rs (take n a) h)) s t (Ok 0)) (sym free)
-          (subst (λ q. Settles g (decided None rs (entered rs q h)) s t (Ok 0)) row
+      rehops_told t h spot good there descends rest sets =
+          rehops_turn g rs a n p row right s t (Ok 0) h good (standing true there)
           (granted_by g rs (entered rs p h) s t None 0 refl (sym (nothing_new rs (entered rs p h) tree))
           (serves_still g s t rs (entered rs p h) rest tree sound serves
           (sets g rs (record { before = serves.ledger; after = sound; stored = serves.stored }) node
-          (node_edge s.slots rs p spot (descends (pushed rs) (taken serves.starts)) node)))))
+          (node_edge s.slots (pushed rs) p spot (descends (pushed rs) (taken serves.starts)) node))))
         where
-          free : announce_checks g rs a n h ≡ None
-          free = announce_standing g rs a n right h good (standing_row true there)
-
           node : has_node (pushed rs) p ≡ true
           node = standing_node rs p (standing true there)
 
@@ -271,4 +293,4 @@ module _ (g : Given) (rs : Routes) (s : State) (serves : Serves g rs s) (a : Bit
           tree = entering_node rs p h node
 
           sound : ledger.Sound g (entered rs p h)
-          sound = subst (λ q. ledger.Sound g (entered rs q h)) (sym row) (announce_sound g rs a n h serves.ledger free)
+          sound = rehop_sound g rs a n p row right h good (standing true there) serves.ledger

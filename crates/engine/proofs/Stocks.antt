@@ -153,7 +153,18 @@ module _ (g : Given) (rs : Routes) (s : State) (stored : Stored g rs s) where
   pub standing_room : (p : Bits) → has_node (pushed rs) p ≡ true → stands rs p ≡ true → s.leaves.held + count (missing s.leaves.map) (reach rs p) ≤ s.leaves.limit
   standing_room p node there = let a = node_number p 0 node in let b = rehops rs p 0 there in let c = stored.leaves_held in let d = stored.leaves_sound.within in omega arith
 
-  -- whether there is room below a leaf q, by what was counted
+  pub counted_reach : (p : Bits) (n : ℕ) → n ≡ min (count (missing s.leaves.map) (painted (has s.routes.map) (shape_at (pushed rs) p) p)) (2 ^ 64 - 1) → n ≡ min (count (missing s.leaves.map) (reach rs p)) (2 ^ 64 - 1)
+  counted_reach p n e = e ∙ ap (λ f. min (count (missing s.leaves.map) (painted f (shape_at (pushed rs) p) p)) (2 ^ 64 - 1)) has_routes
+
+  -- whether there is room at a node p, by what was counted
+  module _ (p : Bits) (h : ℕ) (node : has_node (pushed rs) p ≡ true) (added : ℕ) (counted : added ≡ min (count (missing s.leaves.map) (reach rs p)) (2 ^ 64 - 1)) where
+    pub node_full : s.leaves.limit - s.leaves.held < added → ltb g.leaf_limit (length (matched (entered rs p h))) ≡ true
+    node_full less = lt-ltb _ _ (let n = node_number p h node in let k = stored.leaves_limit in let w = stored.leaves_sound.within in omega (arith, counted, less))
+
+    pub node_fits : added ≤ s.leaves.limit - s.leaves.held → ltb g.leaf_limit (length (matched (entered rs p h))) ≡ false
+    node_fits few = le-ltb _ _ (let n = node_number p h node in let k = stored.leaves_limit in let w = stored.leaves_sound.within in let m = stored.leaves_sound.most in omega (arith, counted, few))
+
+  -- and below a leaf q
   module _ (q p : Bits) (h : ℕ) (is_leaf : Leaf rs q) (over : above q p ≡ true) (added : ℕ) (counted : added ≡ cond (present (s.leaves.map q)) (length p - length q) 1) where
     below_number : s.leaves.held + added ≡ length (matched (entered rs p h))
     below_number =
@@ -170,16 +181,15 @@ module _ (g : Given) (rs : Routes) (s : State) (stored : Stored g rs s) where
     pub below_fits : added ≤ s.leaves.limit - s.leaves.held → ltb g.leaf_limit (length (matched (entered rs p h))) ≡ false
     below_fits most = le-ltb _ _ (let n = below_number in let k = stored.leaves_limit in let w = stored.leaves_sound.within in omega (arith, most))
 
--- whether there is room at a node p, which the edge leads to, by what was counted
+-- the same of a node p that the edge leads to, where what is below the edge was counted
 module _ (g : Given) (rs : Routes) (s : State) (serves : Serves g rs s) (most : s.width ≤ 128) (p : Bits) (h : ℕ) (node : has_node (pushed rs) p ≡ true)
     (edge : Edge) (leads : Unfolds s.slots edge (shape_at (pushed rs) p)) (added : ℕ) (counts : Counts s.routes.map s.leaves.map s.slots (led s.slots edge) p added) where
   counted : added ≡ min (count (missing s.leaves.map) (reach rs p)) (2 ^ 64 - 1)
-  counted =
-      counts_whole _ _ _ _ _ _ counts (shape_at (pushed rs) p) (taken leads) (fits g.width rs p serves.ledger.short (subst (λ w. w ≤ 128) (sym serves.stored.width) most) node)
-      ∙ ap (λ f. min (count (missing s.leaves.map) (painted f (shape_at (pushed rs) p) p)) (2 ^ 64 - 1)) (has_routes g rs s serves.stored)
+  counted = counted_reach g rs s serves.stored p added
+      (counts_whole _ _ _ _ _ _ counts (shape_at (pushed rs) p) (taken leads) (fits g.width rs p serves.ledger.short (subst (λ w. w ≤ 128) (sym serves.stored.width) most) node))
 
-  pub node_full : s.leaves.limit - s.leaves.held < added → ltb g.leaf_limit (length (matched (entered rs p h))) ≡ true
-  node_full less = lt-ltb _ _ (let n = node_number g rs s serves.stored p h node in let k = serves.stored.leaves_limit in let w = serves.stored.leaves_sound.within in omega (arith, counted, less))
+  pub edge_full : s.leaves.limit - s.leaves.held < added → ltb g.leaf_limit (length (matched (entered rs p h))) ≡ true
+  edge_full less = node_full g rs s serves.stored p h node added counted less
 
-  pub node_fits : added ≤ s.leaves.limit - s.leaves.held → ltb g.leaf_limit (length (matched (entered rs p h))) ≡ false
-  node_fits few = le-ltb _ _ (let n = node_number g rs s serves.stored p h node in let k = serves.stored.leaves_limit in let w = serves.stored.leaves_sound.within in let m = serves.stored.leaves_sound.most in omega (arith, counted, few))
+  pub edge_fits : added ≤ s.leaves.limit - s.leaves.held → ltb g.leaf_limit (length (matched (entered rs p h))) ≡ false
+  edge_fits few = node_fits g rs s serves.stored p h node added counted few

@@ -121,7 +121,7 @@ module _ (g : Given) (rs : Routes) (s : State) (most : s.width ≤ 128) (before 
         paint : Whole (twigs q p) had one two ok
         paint = subst (λ xs. Whole xs had one two ok) reached
             (paints (ap fair had_is ∙ entry_fair g rs before q) (shape_at (pushed (entered rs p h)) q)
-            (taken (node_edge s.slots (entered rs p h) q spot (descends (pushed (entered rs p h)) (taken leads)) node))
+            (taken (node_edge s.slots (pushed (entered rs p h)) q spot (descends (pushed (entered rs p h)) (taken leads)) node))
             (fits g.width (entered rs p h) q after.short narrow node))
 
         is_matched : is_some had ≡ matches rs q
@@ -211,7 +211,7 @@ module _ (g : Given) (rs : Routes) (s : State) (most : s.width ≤ 128) (before 
 
         erase : Whole (twigs q p) None s.leaves one ok
         erase = subst (λ xs. Whole xs None s.leaves one ok) reached
-            (erases refl (shape_at (pushed rs) q) (taken (node_edge s.slots rs q spot (descends (pushed rs) (taken leads)) node)) (fits g.width rs q before.short narrow node))
+            (erases refl (shape_at (pushed rs) q) (taken (node_edge s.slots (pushed rs) q spot (descends (pushed rs) (taken leads)) node)) (fits g.width rs q before.short narrow node))
 
         short : length q ≤ 128
         short = let f = fits g.width rs q before.short narrow node in omega arith

@@ -56,6 +56,10 @@ tally_push (x ∷ xs) v = let ih = tally_push xs v in grind arith
 pub tally_one_more : (xs : List Vertex) (i : ℕ) → i < length xs → tally (take (i + 1) xs) ≡ tally (take i xs) + cond (used (at xs i)) 1 0
 tally_one_more xs i h = ap tally (take_more xs i blank h) ∙ tally_push (take i xs) (at xs i)
 
+pub tally_blank : (n : ℕ) → tally (replicate n blank) ≡ 0
+tally_blank zero = refl
+tally_blank (suc n) = let ih = tally_blank n in grind arith
+
 -- a slot is listed where it is in use, and once
 pub listed : (k : ℕ) (xs : List Vertex) (n : ℕ) → used (at xs n) ≡ true → Memᴰ (k + n) (in_use_from k xs)
 listed k [] n u = absurd (true≢false (sym u))

@@ -1,7 +1,7 @@
 -- Going down a tree by the bits of a row. Assumes nothing.
-use Rattle.std.proofs.Common.{◌≡◌, ℕ, ◌+◌, ◌<◌, Bool, true, false, not, List, [], ◌∷◌, ◌++◌, length, get_or, take, sym, refl, ap, ◌∙◌, subst, inr, arith}
+use Rattle.std.proofs.Common.{◌≡◌, ℕ, ◌+◌, ◌<◌, ◌≤◌, Bool, true, false, not, List, [], ◌∷◌, ◌++◌, length, get_or, take, sym, refl, ap, ◌∙◌, subst, inl, inr, arith}
 use Rattle.std.proofs.lemmas.Bool.{true≢false}
-use Rattle.std.proofs.lemmas.List.{take_more}
+use Rattle.std.proofs.lemmas.List.{take_more, take_all}
 use Rattle.bits.specs.Rows.{Bits}
 use Rattle.tree.specs.Tree.{Shape, leaf, fork, forks_at, has_node, shape_at}
 use Rattle.tree.proofs.Nodes.{child_node}
@@ -54,6 +54,9 @@ pub record Down (xs : List Vertex) (start : Edge) (p : Bits) (d : ℕ) (edge : E
   pub unfolds : (t : Shape) → Unfolds xs start t → Unfolds xs edge (shape_at t (take d p))
 
 module _ (xs : List Vertex) (start : Edge) (p : Bits) where
+  pub down_start : Down xs start p 0 start
+  down_start = record { node = λ t h. refl; unfolds = λ t h. h }
+
   -- one bit on
   pub down_next : (d n : ℕ) (edge e : Edge) (b : Bool) → Down xs start p d edge → edge ≡ To n → d < length p → b ≡ get_or p d false → e ≡ next xs (led xs edge) b → Down xs start p (d + 1) e
   down_next d n edge e b here is less bit goes = record { node = node; unfolds = unfolds }
@@ -75,3 +78,13 @@ module _ (xs : List Vertex) (start : Edge) (p : Bits) where
     unfolds = here.unfolds t h;
     stops = inr (less, unfolds_one (here.unfolds t h) (rw is unfolds_end), is);
   }
+
+  pub down_whole : (d len : ℕ) (edge : Edge) (t : Shape) → Down xs start p d edge → length p ≤ d → len ≡ length p → Unfolds xs start t → SpotOf xs t p (record { edge = edge; depth = len })
+  down_whole d len edge t here past long h =
+      let same : take d p ≡ take len p = take_all d p past ∙ sym (take_all len p (omega arith)) in
+      record {
+        within = omega arith;
+        node = ap (has_node t) (sym same) ∙ here.node t h;
+        unfolds = subst (λ q. Unfolds xs edge (shape_at t q)) same (here.unfolds t h);
+        stops = inl long;
+      }

@@ -4,7 +4,7 @@ use mathlib.Core.Logic.{∥∥₁_elim, ∥∥₁_map}
 use mathlib.Core.HLevel.{⊥_prop}
 use Rattle.refusal.specs.declared.Refusal.TheVariants.{VerticesFull}
 use Rattle.tree.specs.Tree.{Shape, fork}
-use Rattle.graph.specs.Slots.{linked, used, zero_of, one_of, at, led, Unfolds, unfolds_to, Sound, in_use}
+use Rattle.graph.specs.Slots.{linked, used, zero_of, one_of, at, led, Unfolds, unfolds_to, Leads, Sound, in_use}
 use Rattle.graph.specs.Calls.{Unheld, Kept, Made, Refused}
 use Rattle.graph.specs.Find.{Has, Lacks, Full}
 use Rattle.graph.specs.declared.edge.Edge.{Edge}
@@ -25,6 +25,17 @@ kept_same xs = record { slots = λ n u. refl; shapes = λ e t h. h }
 
 pub kept_by_slots : (xs ys : List Vertex) → ((n : ℕ) → used (at xs n) ≡ true → at ys n ≡ at xs n) → Kept xs ys
 kept_by_slots xs ys keep = record { slots = keep; shapes = λ e t h. unfolds_kept ys keep h }
+
+pub kept_set : (xs : List Vertex) (n : ℕ) (z o : Edge) → n < length xs → used (at xs n) ≡ false → Kept xs (set xs n (linked z o))
+kept_set xs n z o inside free = kept_by_slots xs (set xs n (linked z o)) (added_keeps xs n z o inside free)
+
+-- the invariants of the table with the new vertex
+pub counted_made : (xs : List Vertex) (n u : ℕ) (z o : Edge) → n < length xs → used (at xs n) ≡ false → u ≡ length (in_use xs) → u + 1 ≡ length (in_use (set xs n (linked z o)))
+counted_made xs n u z o inside free h =
+    omega (arith, length_in_use 0 xs, length_in_use 0 (set xs n (linked z o)), tally_set xs n (linked z o) inside free refl)
+
+pub sound_made : (xs : List Vertex) (n : ℕ) (z o : Edge) → n < length xs → used (at xs n) ≡ false → ∥ Sound xs ∥₁ → Leads xs z → Leads xs o → Lacks xs z o → ∥ Sound (set xs n (linked z o)) ∥₁
+sound_made xs n z o inside free sound lz lo new = ∥∥₁_map sound λ s. sound_added xs n z o inside free s lz lo new
 
 -- what `fork` leaves, where the edges zero and one are taken for z and o
 module _ (xs : List Vertex) (zero one z o : Edge) (to_zero : z ≡ led xs zero) (to_one : o ≡ led xs one) where
@@ -58,7 +69,7 @@ module _ (xs : List Vertex) (zero one z o : Edge) (to_zero : z ≡ led xs zero) 
       inside = omega (arith, place.0)
 
       pub kept_made : Kept xs (set xs n v)
-      kept_made = rw is (kept_by_slots xs (set xs n (linked z o)) (added_keeps xs n z o inside place.1))
+      kept_made = rw is (kept_set xs n z o inside place.1)
 
       pub made : (a b : Shape) → Unfolds xs (led xs zero) a → Unfolds xs (led xs one) b → Made xs (set xs n v) (fork a b) (To n)
       made a b l r = rw is (record {
@@ -69,8 +80,8 @@ module _ (xs : List Vertex) (zero one z o : Edge) (to_zero : z ≡ led xs zero) 
         others = λ m apart. added_other xs n z o inside place.1 m (λ e. apart (ap To (sym e)));
       })
 
-      pub counted_made : (u : ℕ) → u ≡ length (in_use xs) → u + 1 ≡ length (in_use (set xs n v))
-      counted_made u h = rw is (omega (arith, length_in_use 0 xs, length_in_use 0 (set xs n (linked z o)), tally_set xs n (linked z o) inside place.1 refl))
+      pub made_counted : (u : ℕ) → u ≡ length (in_use xs) → u + 1 ≡ length (in_use (set xs n v))
+      made_counted u h = rw is (counted_made xs n u z o inside place.1 h)
 
-      pub sound_made : ∥ Sound (set xs n v) ∥₁
-      sound_made = rw is (∥∥₁_map sound λ s. sound_added xs n z o inside place.1 s (rw to_zero (led_leads xs zero)) (rw to_one (led_leads xs one)) lacks)
+      pub made_sound : ∥ Sound (set xs n v) ∥₁
+      made_sound = rw is (sound_made xs n z o inside place.1 sound (rw to_zero (led_leads xs zero)) (rw to_one (led_leads xs one)) lacks)

@@ -114,16 +114,22 @@ module _ (xs ys : List Vertex) (node : Edge) (t : Shape) (h : Unfolds xs (led xs
     abbrev Forks : Edge → Edge → Type 0
     Forks z o = (a b : Shape) → Unfolds ys (led ys z) a → Unfolds ys (led ys o) b → MatchResult r (Made ys zs (fork a b)) (Refused ys zs (fork a b))
 
-    pub up : (b : Bool) → row ≡ b ∷ p → Pathed xs ys (grown p (side b t)) e → beside ≡ next xs (led xs node) (not b) → Forks (cond b beside e) (cond b e beside)
-        → MatchResult r (Pathed xs zs (grown row t)) (Stopped xs zs (grown row t))
-    up false is path to forks = rw (is, grown_zero p t) (MatchResult-weaker r
+    pub up_zero : row ≡ false ∷ p → Pathed xs ys (grown p (side false t)) e → beside ≡ next xs (led xs node) true → Forks e beside → MatchResult r (Pathed xs zs (grown row t)) (Stopped xs zs (grown row t))
+    up_zero is path to forks = rw (is, grown_zero p t) (MatchResult-weaker r
         (forks (grown p (side false t)) (side true t) (taken path.unfolds) (taken (kept.shapes beside (side true t) (rw to (unfolds_side true h)))))
         (λ f made. made_up xs ys _ _ (grown p (side false t)) (left_within _ _) zs f path.new more made)
         (λ why full. refused_up xs ys _ _ (grown p (side false t)) (left_within _ _) zs why path.new full))
-    up true is path to forks = rw (is, grown_one p t) (MatchResult-weaker r
+
+    pub up_one : row ≡ true ∷ p → Pathed xs ys (grown p (side true t)) e → beside ≡ next xs (led xs node) false → Forks beside e → MatchResult r (Pathed xs zs (grown row t)) (Stopped xs zs (grown row t))
+    up_one is path to forks = rw (is, grown_one p t) (MatchResult-weaker r
         (forks (side false t) (grown p (side true t)) (taken (kept.shapes beside (side false t) (rw to (unfolds_side false h)))) (taken path.unfolds))
         (λ f made. made_up xs ys _ _ (grown p (side true t)) (right_within _ _) zs f path.new more made)
         (λ why full. refused_up xs ys _ _ (grown p (side true t)) (right_within _ _) zs why path.new full))
+
+    pub up : (b : Bool) → row ≡ b ∷ p → Pathed xs ys (grown p (side b t)) e → beside ≡ next xs (led xs node) (not b) → Forks (cond b beside e) (cond b e beside)
+        → MatchResult r (Pathed xs zs (grown row t)) (Stopped xs zs (grown row t))
+    up false = up_zero
+    up true = up_one
 
 -- the row, from its bit at d on
 pub goes_on : (row : Bits) (d : ℕ) (b : Bool) → d < length row → get_or row d false ≡ b → drop d row ≡ b ∷ drop (d + 1) row

@@ -18,6 +18,10 @@ pub member_right : {A : Type 0} {x : A} (xs : List A) {ys : List A} → Memᴰ x
 member_right [] m = m
 member_right (y ∷ xs) m = Memᴰ.tail (member_right xs m)
 
+-- nothing to mark
+pub reached_none : (xs : List Vertex) (ms : List Bool) (e : Edge) (t : Shape) → Whole xs ms → Marks ms e → Reached xs ms ms e t
+reached_none xs ms e t whole here = record { whole = whole; here = here; stay = λ n h. h; only = λ n h. inl h }
+
 pub flat : {xs : List Vertex} {e : Edge} {t : Shape} → Unfolds xs e t → depth t ≤ 0 → e ≡ End
 flat unfolds_end d = refl
 flat (unfolds_to u l r) d = absurd (omega arith)

@@ -57,6 +57,16 @@ module _ (xs : List Vertex) (ms : List Bool) (i n : ℕ) (ys : List Vertex) wher
       done k h (inl e) = s.rest k (omega arith) ∙ sym (cond-true (marked ms k) (at xs k) blank (ap (marked ms) e ∙ m))
       done k h (inr apart) = s.done k (omega arith)
 
+  pub sweep_all : Sweeping xs ms i n ys → 2048 ≤ i → length xs ≡ 2048 → Swept xs ms ys
+  sweep_all s end long k = elim (cases_lt k 2048) [
+    | inl h ↦ s.done k (omega arith)
+    | inr h ↦ past (marked ms k) (get_or_past ys k blank (omega (arith, s.long))) (get_or_past xs k blank (omega arith))
+  ]
+    where
+      past : (b : Bool) → at ys k ≡ blank → at xs k ≡ blank → at ys k ≡ cond b (at xs k) blank
+      past true p q = p ∙ sym q
+      past false p q = p
+
   pub sweep_count : Sweeping xs ms i n ys → 2048 ≤ i → n ≡ length (in_use ys)
   sweep_count s end = s.count ∙ ap tally (take_all i ys (omega (arith, s.long))) ∙ sym (length_in_use 0 ys)
 

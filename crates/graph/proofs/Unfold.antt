@@ -71,3 +71,6 @@ next_leads : (xs : List Vertex) (e : Edge) (b : Bool) → ∥ Sound xs ∥₁ �
 next_leads xs End b sound h = tt
 next_leads xs (To n) false sound h = ∥∥₁_elim sound (leads_prop xs (zero_of (at xs n))) λ s. (s.leads n h).0
 next_leads xs (To n) true sound h = ∥∥₁_elim sound (leads_prop xs (one_of (at xs n))) λ s. (s.leads n h).1
+
+pub followed_is : (xs : List Vertex) (node e : Edge) (b : Bool) → ∥ Sound xs ∥₁ → e ≡ next xs (led xs node) b → led xs e ≡ e
+followed_is xs node e b sound is = led_is xs e (rw is (next_leads xs (led xs node) b sound (led_leads xs node)))

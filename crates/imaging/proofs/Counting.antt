@@ -8,7 +8,7 @@ use Rattle.graph.specs.declared.edge.Edge.{Edge}
 use Rattle.graph.specs.declared.edge.Edge.TheVariants.{End, To}
 use Rattle.graph.specs.declared.vertex.Vertex.{Vertex}
 use Rattle.graph.proofs.Count.{tally, tally_at_most, tally_one_more, length_in_use}
-use Rattle.graph.proofs.Edges.{to_is, led_used, led_leads, used_within}
+use Rattle.graph.proofs.Edges.{to_is, led_used, led_free, led_leads, used_within}
 use Rattle.imaging.specs.Vertices.{Numbers}
 use Rattle.imaging.specs.declared.numbering.Numbering.{Numbering}
 
@@ -243,3 +243,15 @@ module _ (xs : List Vertex) (long : length xs ≡ 2048) (start lead : Edge) wher
 -- a slot that its edge is not taken to lead to is free
 pub led_not_used : (xs : List Vertex) (n : ℕ) → (led xs (To n) ≡ To n → ⊥) → used (at xs n) ≡ false
 led_not_used xs n h = ⊎_elim (λ (u : used (at xs n) ≡ true). absurd (h (led_used xs n u))) (λ (u : used (at xs n) ≡ false). u) (cases_Bool (used (at xs n)))
+
+pub led_end_free : (xs : List Vertex) (n : ℕ) → End ≡ led xs (To n) → used (at xs n) ≡ false
+led_end_free xs n h = led_not_used xs n (λ e. apart (h ∙ e))
+  where
+    apart : End ≡ To n → ⊥
+    apart e = let z : ◌≡◌ {A = ℕ} 0 1 = cc in omega arith
+
+pub led_to_used : (xs : List Vertex) (n m : ℕ) → To m ≡ led xs (To n) → used (at xs n) ≡ true
+led_to_used xs n m h = ⊎_elim (λ (u : used (at xs n) ≡ true). u) (λ (u : used (at xs n) ≡ false). absurd (apart (h ∙ led_free xs n u))) (cases_Bool (used (at xs n)))
+  where
+    apart : To m ≡ End → ⊥
+    apart e = let z : ◌≡◌ {A = ℕ} 0 1 = cc in omega arith

@@ -3,7 +3,7 @@ use Rattle.std.proofs.Common.{◌≡◌, ℕ, ◌+◌, ◌-◌, ◌*◌, ◌<◌
 use borrow.Rule.Slice.PartMut.{put_mid}
 use Rattle.std.proofs.lemmas.List.{get_or-set_same, get_or-set_other, get_or-take, get_or-append_right, length-take-le, drop-set-lt, drop-drop}
 use Rattle.std.proofs.lemmas.Slice.{take-put_mid_below, take-put_mid, drop-put_mid}
-use Rattle.std.proofs.lemmas.Nat.{mul-add-lt}
+use Rattle.std.proofs.lemmas.Nat.{mul-add-lt, mul-le}
 use Rattle.std.proofs.lemmas.Bool.{cases_lt}
 use Rattle.bits.specs.Rows.{word}
 use Rattle.tree.specs.Graph.{to}
@@ -29,6 +29,12 @@ pub record Filled (xs : List Vertex) (n : Numbering) (s x : ℕ) (es fs ms ns : 
   pub marks : (y : ℕ) → y < x → Marked (out xs) s (get_or n.slots.items y 0) (get_or ns y 0)
   pub edges_behind : drop (x * edges_each s) fs ≡ drop (x * edges_each s) es
   pub marks_behind : drop x ns ≡ drop x ms
+
+-- the next vertex has room where all have
+pub vertex_room : (x count k s len : ℕ) → x < count → k ≡ edges_each s → count * edges_each s ≤ len → x * k + edges_each s ≤ len
+vertex_room x count k s len less is all =
+    let here : x * k ≡ x * edges_each s = ap (λ j. x * j) is in
+    omega (arith, mul-le (x + 1) (edges_each s) count (edges_each s) (omega arith) (omega arith), add-mul x 1 (edges_each s))
 
 -- one vertex more: its edges vs stand in k places from place a on
 module _ {xs : List Vertex} {n : Numbering} {s x : ℕ} {es fs ms ns : List ℕ} (h : Filled xs n s x es fs ms ns) where

@@ -1,22 +1,22 @@
 -- Where the bits of an edge lead, by the spot that the table's way down ends at. Assumes nothing.
-use Rattle.std.proofs.Common.{◌≡◌, ℕ, ◌+◌, ◌-◌, ◌*◌, ◌%◌, ◌^◌, ◌<◌, ◌≤◌, true, false, List, [], ◌∷◌, length, take, drop, Some, None, Option, sym, refl, ap, ◌∙◌, subst, inl, inr, arith}
+use Rattle.std.proofs.Common.{◌≡◌, ℕ, ◌+◌, ◌-◌, ◌*◌, ◌%◌, ◌^◌, ◌<◌, ◌≤◌, Bool, true, false, List, [], ◌∷◌, length, take, drop, Some, None, Option, sym, refl, ap, ◌∙◌, subst, inl, inr, ⊎_elim, arith}
 use mathlib.Core.Logic.{∥∥₁_elim}
 use denote.Struct.Props.{props}
-use Rattle.std.proofs.lemmas.Bool.{true≢false}
+use Rattle.std.proofs.lemmas.Bool.{cases_Bool, true≢false}
 use Rattle.std.proofs.lemmas.List.{take_all, take-append-le, take-append-drop, length-take-le}
 use Rattle.std.proofs.lemmas.Nat.{shl-shr, shl_whole}
 use Rattle.bits.specs.Rows.{Bits, word, halves}
 use Rattle.bits.proofs.Words.{length_word, take_word}
 use Rattle.tree.specs.Tree.{Shape, leaf, has_node, shape_at}
 use Rattle.tree.specs.Graph.{to, walk}
-use Rattle.graph.specs.Slots.{is_end, at, used, led, Unfolds, unfolds_end, unfolds_to, Sound}
+use Rattle.graph.specs.Slots.{is_end, blank, at, used, side_of, led, next, Unfolds, unfolds_end, unfolds_to, Sound}
 use Rattle.graph.specs.View.{way, out}
 use Rattle.graph.specs.Descend.{SpotOf, Descends}
 use Rattle.graph.specs.declared.edge.Edge.{Edge}
 use Rattle.graph.specs.declared.edge.Edge.TheVariants.{End, To}
 use Rattle.graph.specs.declared.spot.Spot.{Spot}
 use Rattle.graph.specs.declared.vertex.Vertex.{Vertex}
-use Rattle.graph.proofs.Edges.{led_used}
+use Rattle.graph.proofs.Edges.{free_is, led_used, led_free}
 use Rattle.graph.proofs.Descending.{vertex_forks}
 use Rattle.graph.proofs.Unfold.{unfolds_one, one_edge, each_unfolds}
 use Rattle.graph.proofs.Walking.{walk_to_leaf, walk_to_fork}
@@ -32,6 +32,20 @@ edge_bits s e most less =
     take-append-le s (word 64 ((e * 2 ^ (64 - s)) % 2 ^ 64)) (word 64 0) (omega (arith, length_word 64 ((e * 2 ^ (64 - s)) % 2 ^ 64))) ∙
     ap (λ n. take s (word 64 n)) (shl_whole e s (64 - s) 64 less (omega arith)) ∙ ap (λ w. take s (word w (e * 2 ^ (64 - s)))) (sym size) ∙
     take_word s (64 - s) (e * 2 ^ (64 - s)) ∙ ap (word s) (shl-shr e (64 - s))
+
+-- an edge that is followed by a table is followed in its graph
+pub followed_out : (xs : List Vertex) (n : ℕ) (e : Edge) (b : Bool) → e ≡ next xs (led xs (To n)) b → way e ≡ out xs n b
+followed_out xs n e b is = ⊎_elim in_use free (cases_Bool (used (at xs n)))
+  where
+    in_use : used (at xs n) ≡ true → way e ≡ out xs n b
+    in_use u = ap way (is ∙ ap (λ f. next xs f b) (led_used xs n u))
+
+    blank_side : (c : Bool) → side_of blank c ≡ End
+    blank_side true = refl
+    blank_side false = refl
+
+    free : used (at xs n) ≡ false → way e ≡ out xs n b
+    free u = ap way (is ∙ ap (λ f. next xs f b) (led_free xs n u)) ∙ sym (ap (λ v. way (side_of v b)) (free_is (at xs n) u) ∙ ap way (blank_side b))
 
 -- the bits of a node lead to the edge of its tree
 down_unfolds : {xs : List Vertex} {e : Edge} {t : Shape} (q : Bits) → Unfolds xs e t → has_node t q ≡ true → (f : Edge) × (down (out xs) (way e) q ≡ way f) × Unfolds xs f (shape_at t q)

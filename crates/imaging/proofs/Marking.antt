@@ -1,5 +1,5 @@
 -- The marks of a vertex, from edge 0 up. Assumes nothing.
-use Rattle.std.proofs.Common.{◌≡◌, ℕ, zero, suc, ◌+◌, ◌-◌, ◌%◌, ◌^◌, ◌<◌, ◌≤◌, Bool, true, false, cond, not, eqb, ◌↔◌, List, Some, None, Option, sym, refl, ap, ◌∙◌, subst, true≢false, arith}
+use Rattle.std.proofs.Common.{◌≡◌, ℕ, zero, suc, ◌+◌, ◌-◌, ◌%◌, ◌^◌, ◌<◌, ◌≤◌, Bool, true, false, cond, not, eqb, ◌↔◌, List, Some, None, Option, sym, refl, ap, ◌∙◌, subst, true≢false, pow-suc, pow_mono, arith}
 use mathlib.Core.Bool.{false≢true}
 use Rattle.std.proofs.lemmas.Bool.{eqb-true, eqb-false, eq-eqb, ne_eqb}
 use Rattle.bits.specs.Rows.{word}
@@ -8,9 +8,9 @@ use Rattle.graph.specs.View.{out}
 use Rattle.graph.specs.declared.edge.Edge.{Edge}
 use Rattle.graph.specs.declared.vertex.Vertex.{Vertex}
 use Rattle.image.specs.Image.{edges_each}
-use Rattle.image.specs.Picture.{Joined, mark}
+use Rattle.image.specs.Picture.{Joined, Marked, mark}
 use Rattle.image.proofs.Groups.{alone, joined_next}
-use Rattle.image.proofs.Marks.{with_mark, with_mark_here, MarkedTo, marked_more}
+use Rattle.image.proofs.Marks.{with_mark, with_mark_here, MarkedTo, marked_first, marked_more, marked_all}
 use Rattle.imaging.specs.Vertices.{Left, Goes}
 
 -- the marks of the edges below e, and the last of them
@@ -19,6 +19,9 @@ pub record Marking (xs : List Vertex) (s v e m : ℕ) (one : Bool) : Type 0 wher
   pub last : mark m (e - 1) ≡ one
 
 module _ (xs : List Vertex) (s v : ℕ) where
+  pub marking_start : Marking xs s v 1 0 false
+  marking_start = record { marked = marked_first (out xs) s v; last = refl }
+
   -- the next edge is of the same group unless a block of the edges that the last leads with begins with it
   pub joined_by : (e n : ℕ) (w : Edge) → suc e < edges_each s → Goes xs s v e w n → Joined (out xs) s v e (suc e) ↔ (suc e % 2 ^ n ≡ 0 → ⊥)
   joined_by e n w less h = go (walk (out xs) (to v) (word s e)) refl h.left
@@ -73,3 +76,10 @@ module _ (xs : List Vertex) (s v : ℕ) where
 
     pub marking_turn : (b : Bool) (m' : ℕ) → b ≡ cond (eqb (e % 2 ^ n) 0) (not one) one → m' ≡ with_mark m e b → Marking xs s v (e + 1) m' b
     marking_turn b m' is marks = subst (λ k. Marking xs s v (e + 1) k b) (sym marks) (marking_more e m n w one b least less goes is h)
+
+  -- the marks fit
+  pub marking_fits : (e m : ℕ) (one : Bool) → e < edges_each s → s ≤ 6 → Marking xs s v e m one → m + 2 ^ e < 2 ^ 64
+  marking_fits e m one less most h = omega (arith, h.marked.high, pow-suc 2 e, pow_mono {i = suc e} {j = 64} (omega (arith, pow_mono {i = s} {j = 6} most)))
+
+  pub marking_all : (e m : ℕ) (one : Bool) → e ≡ edges_each s → Marking xs s v e m one → Marked (out xs) s v m
+  marking_all e m one all h = marked_all (out xs) s v m (subst (λ k. MarkedTo (out xs) s v k m) all h.marked)

@@ -3,24 +3,26 @@
 --   Put                what setting a hop leaves: the layer's facts, its content and every row's place
 --   Taken              what taking a row out leaves
 use Rattle.std.proofs.Common.{◌≡◌, ℕ, ◌+◌, ◌-◌, ◌/◌, ◌<◌, ◌≤◌, min, true, false, cond, eqb, ltb, List, length, set, replicate, is_ok, Some, None, Ok, Err, Option, Result, sym, refl, ap, ◌∙◌, subst, inl, inr, arith}
-use Rattle.std.proofs.lemmas.Bool.{cases_Bool, true≢false, lt-ltb, le-ltb, eqb-true, eqb-false, ne_eqb}
+use Rattle.std.proofs.lemmas.Bool.{cases_Bool, true≢false, lt-ltb, le-ltb, eqb-true, eqb-false, eq-eqb, ne_eqb}
 use Rattle.std.proofs.lemmas.List.Quantifiers.{position-Some}
 use Rattle.bits.specs.Rows.{Bits, same}
 use Rattle.bits.proofs.Tests.{same_is}
 use Rattle.net.specs.Prefix.{row_of}
 use Rattle.net.specs.declared.prefix.Prefix.{Prefix}
 use Rattle.refusal.specs.declared.Refusal.{Refusal}
-use Rattle.store.specs.Content.{Told, absent, present, Content, bad_hop, put_refusal, Puts, Removes, Empty}
+use Rattle.refusal.specs.declared.Refusal.TheVariants.{StoreFull}
+use Rattle.store.specs.Content.{Told, absent, present, Content, bad_hop, put_refusal, Puts, Removes, Empty, Sound}
 use Rattle.store.specs.Slots.{Slot, at, holds, told_by, taken, spot, told_at, told_in, used, Apart}
 use Rattle.store.specs.declared.slot.Entry.{Entry}
 use Rattle.store.proofs.Spots.{of_free, of_entry, site_held, site_free}
-use Rattle.store.proofs.Rows.{held_present, all_taken, used_none, told_none, apart_none}
+use Rattle.store.proofs.Rows.{held_present, all_taken, free_at, used_none, told_none, apart_none}
 use Rattle.layer.specs.declared.layer.Layer.{Layer}
 use Rattle.layer.specs.declared.place.Place.{Place}
 use Rattle.layer.specs.declared.place.Place.TheVariants.{Bucket}
 use Rattle.layer.specs.declared.place.Place.TheVariants as place
 use Rattle.layer.specs.Buckets.{fill, near, astray, strays_in, choice}
 use Rattle.layer.specs.Layers.{joined, layer_content}
+use Rattle.layer.specs.Numbers.{sound_within}
 use Rattle.layer.specs.Places.{place_of, Stay, Placed, Lands, PutPlaces}
 use Rattle.layer.proofs.Buckets.{fill_free, choice_near, free_astray, strays_set, strays_none, astray_held}
 use Rattle.layer.proofs.Writes.{own_wrote, own_places, own_separate, own_apart, below_wrote, below_places, below_separate}
@@ -48,6 +50,9 @@ kept_of l = record { apart = l.apart; separate = l.separate; counted = l.counted
 -- what a write leaves, under another name of the slots after it
 pub put_as : (f : Prefix → ℕ → ℕ) (s : Entry) (xs : List Slot) (c : Content) (n : ℕ) (d : Content) (r : Result (Unit {0}) Refusal) (ys zs : List Slot) → ys ≡ zs → Put f s xs c zs n d r → Put f s xs c ys n d r
 put_as f s xs c n d r ys zs e done = subst (λ us. Put f s xs c us n d r) (sym e) done
+
+pub taken_as : (f : Prefix → ℕ → ℕ) (q : Bits) (xs : List Slot) (c : Content) (n : ℕ) (d : Content) (t u : Told) (ys zs : List Slot) → ys ≡ zs → u ≡ t → Taken f q xs c zs n d t → Taken f q xs c ys n d u
+taken_as f q xs c n d t u ys zs e a done = subst (λ us. Taken f q xs c us n d u) (sym e) (subst (λ v. Taken f q xs c zs n d v) (sym a) done)
 
 -- the row keeps its place, and so do all
 stays : (q : Bits) (w : Option Place) (xs : List Slot) (c : Content) (ys : List Slot) (d : Content) → place_of xs c q ≡ w → Placed q w xs c ys d → Stay xs c ys d
@@ -116,6 +121,12 @@ module _ (f : Prefix → ℕ → ℕ) (s : Entry) (xs : List Slot) (n : ℕ) (c 
 
     fresh_place : place_of xs c (row_of s.prefix) ≡ None
     fresh_place = rw (fresh_spot, fresh_below) refl
+
+    -- the store is full
+    pub refused_full : used xs + c.held ≡ min (768 + c.limit) 16777216 → Put f s xs c xs n c (Err StoreFull)
+    refused_full full =
+        let t = eq-eqb _ _ full in
+        record { kept = kept; puts = (rw (good, fresh, t) refl, refl); places = λ x. refl }
 
     module _ (room : used xs + c.held ≡ min (768 + c.limit) 16777216 → ⊥) (within : used xs + c.held ≤ min (768 + c.limit) 16777216) where
       granted : put_refusal (layer_content xs c) (row_of s.prefix) s.hop ≡ None
@@ -206,7 +217,7 @@ get_own p xs c i e = sym (first (told_in xs (row_of p)) _ (c.map (row_of p)) (he
     first None u v h e = absurd (true≢false (sym h))
     first (Some w) u v h e = e
 
-get_below : (p : Prefix) (xs : List Slot) (c : Content) → spot xs (row_of p) ≡ None → c.map (row_of p) ≡ (layer_content xs c).map (row_of p)
+pub get_below : (p : Prefix) (xs : List Slot) (c : Content) → spot xs (row_of p) ≡ None → c.map (row_of p) ≡ (layer_content xs c).map (row_of p)
 get_below p xs c e = let o : told_in xs (row_of p) ≡ absent = ap (told_at xs) e in rw o refl
 
 module _ (f : Prefix → ℕ → ℕ) (p : Prefix) (xs : List Slot) (n : ℕ) (c : Content) (kept : Layered f xs n c) where
@@ -248,8 +259,16 @@ module _ (f : Prefix → ℕ → ℕ) (p : Prefix) (xs : List Slot) (n : ℕ) (c
 pub emptied : (f : Prefix → ℕ → ℕ) (n : ℕ) (d : Content) → Empty d → Layered f (replicate n None) 0 d × Empty (layer_content (replicate n None) d)
 emptied f n d empty =
     let xs : List Slot = replicate n None in
-    let none = used_none n in
+    let free : (k : ℕ) → k < length xs → at xs k ≡ None = λ k l. free_at n k in
+    let none = used_none xs free in
     let zero_held = empty.number in (
-      record { apart = apart_none n; separate = λ q h. empty.rows q; counted = sym (strays_none f 0 n); most = omega arith },
-      record { rows = λ q. (let a = told_none n q in let b = empty.rows q in grind arith); number = omega arith },
+      record { apart = apart_none xs none; separate = λ q h. empty.rows q; counted = sym (strays_none f 0 n); most = omega arith },
+      record { rows = λ q. (let a = told_none xs q free in let b = empty.rows q in grind arith); number = omega arith },
+    )
+
+pub emptied_as : (f : Prefix → ℕ → ℕ) (n : ℕ) (xs : List Slot) → xs ≡ replicate n None → (d : Content) → Sound d → Empty d → (Layered f xs 0 d × Sound (layer_content xs d)) × Empty (layer_content xs d)
+emptied_as f n xs e d below empty =
+    let (kept, none) = subst (λ ys. Layered f ys 0 d × Empty (layer_content ys d)) (sym e) (emptied f n d empty) in (
+      (kept, sound_within xs d kept.apart kept.separate (omega (arith, none.number)) below),
+      none,
     )

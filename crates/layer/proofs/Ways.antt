@@ -1,5 +1,5 @@
 -- What each way through the calls of a layer leaves, by the layer itself: l is the layer before, s the entry. Assumes nothing.
-use Rattle.std.proofs.Common.{◌≡◌, ℕ, ◌+◌, ◌-◌, ◌/◌, ◌≤◌, min, true, false, cond, List, set, is_ok, Some, None, Ok, Result, sym, ◌∙◌, subst, arith}
+use Rattle.std.proofs.Common.{◌≡◌, ℕ, ◌+◌, ◌-◌, ◌/◌, ◌≤◌, min, true, false, cond, List, set, is_ok, Some, None, Ok, Result, sym, refl, ◌∙◌, subst, arith}
 use Rattle.net.specs.Prefix.{row_of}
 use Rattle.net.specs.declared.prefix.Prefix.{Prefix}
 use Rattle.refusal.specs.declared.Refusal.{Refusal}
@@ -10,7 +10,7 @@ use Rattle.layer.specs.Buckets.{near, choice, FreesIn}
 use Rattle.layer.specs.Layers.{layer_content}
 use Rattle.layer.specs.Numbers.{layer_sound}
 use Rattle.layer.specs.declared.layer.Layer.{Layer}
-use Rattle.layer.proofs.Puts.{Put, Taken, kept_of, put_as, replaced_own, replaced_below, entered_bucket, entered_below, entered_anywhere, no_room, taken_own, taken_below}
+use Rattle.layer.proofs.Puts.{Put, Taken, kept_of, put_as, taken_as, replaced_own, replaced_below, entered_bucket, entered_below, entered_anywhere, no_room, taken_own, taken_below}
 
 module _ {C S : Type 0} {k : _} {t : _} (l : Layer C S k t) (s : Entry) (good : bad_hop s.hop ≡ false) where
   -- the hop of an own entry is replaced
@@ -64,7 +64,7 @@ module _ {C S : Type 0} {k : _} {t : _} (l : Layer C S k t) (p : Prefix) where
   pub takes_own : {i : ℕ} {ys : List Slot} → Some i ≡ spot l.buckets.slots (row_of p) → ys ≡ set l.buckets.slots i None
       → Taken k.bucket (row_of p) l.buckets.slots (t.content l.below) ys (l.strays - cond (near k.bucket p (i / 3)) 0 1) (t.content l.below) (told_by (at l.buckets.slots i))
   takes_own {i} {ys} e wrote =
-      subst (λ us. Taken k.bucket (row_of p) l.buckets.slots (t.content l.below) us (l.strays - cond (near k.bucket p (i / 3)) 0 1) (t.content l.below) (told_by (at l.buckets.slots i))) (sym wrote)
+      taken_as k.bucket (row_of p) l.buckets.slots (t.content l.below) (l.strays - cond (near k.bucket p (i / 3)) 0 1) (t.content l.below) _ _ ys _ wrote refl
       (taken_own k.bucket p l.buckets.slots l.strays (t.content l.below) (kept_of l) i (sym e))
 
   -- an entry below is taken out, or none

@@ -25,7 +25,7 @@ no_repeats_both (x ∷ xs) ys a b c =
     let new = a.0 in
     (grind arith, no_repeats_both xs ys a.1 b (λ q h. c q (grind arith)))
 
-joined_counted : (xs : List Slot) (c : Content) → Apart xs → ((q : Bits) → present (told_in xs q) ≡ true → c.map q ≡ absent) → Counted c.map c.held → Counted (layer_content xs c).map (layer_content xs c).held
+pub joined_counted : (xs : List Slot) (c : Content) → Apart xs → ((q : Bits) → present (told_in xs q) ≡ true → c.map q ≡ absent) → Counted c.map c.held → Counted (layer_content xs c).map (layer_content xs c).held
 joined_counted xs c apart separate counted = ∥∥₁_map counted λ (ys, l). (rows xs ++ ys, both ys l)
   where
     both : (ys : List Bits) → Listed c.map c.held ys → Listed (layer_content xs c).map (layer_content xs c).held (rows xs ++ ys)
@@ -37,7 +37,10 @@ joined_counted xs c apart separate counted = ∥∥₁_map counted λ (ys, l). (
           long = omega (arith, length-append (rows xs) ys, own.long, l.long);
         }
 
+-- with as many slots as one likes, a layer is sound where it holds no more than it may
+pub sound_within : (xs : List Slot) (c : Content) → Apart xs → ((q : Bits) → present (told_in xs q) ≡ true → c.map q ≡ absent) → (layer_content xs c).held ≤ (layer_content xs c).limit → Sound c → Sound (layer_content xs c)
+sound_within xs c apart separate within below = record { within = within; most = omega arith; counted = joined_counted xs c apart separate below.counted }
+
 -- a layer is sound, whatever it holds
 pub layer_sound : (xs : List Slot) (c : Content) → length xs ≡ 768 → Apart xs → ((q : Bits) → present (told_in xs q) ≡ true → c.map q ≡ absent) → used xs + c.held ≤ 16777216 → Sound c → Sound (layer_content xs c)
-layer_sound xs c long apart separate most below =
-    record { within = omega (arith, count_by-le-length taken xs, below.within); most = omega arith; counted = joined_counted xs c apart separate below.counted }
+layer_sound xs c long apart separate most below = sound_within xs c apart separate (omega (arith, count_by-le-length taken xs, below.within)) below

@@ -1,11 +1,15 @@
 -- What a reply says, piece by piece. Assumes nothing.
-use Rattle.std.proofs.Common.{◌≡◌, ℕ, ◌+◌, ◌≤◌, List, [], ◌∷◌, ◌++◌, length, codes, decimal, ap, ◌∙◌, arith, length-append}
+use Rattle.std.proofs.Common.{◌≡◌, ℕ, ◌+◌, ◌^◌, ◌<◌, ◌≤◌, List, [], ◌∷◌, ◌++◌, length, codes, decimal, ap, ◌∙◌, arith, length-append}
 use Rattle.std.proofs.lemmas.Fmt.{length-decimal-le}
 use Rattle.refusal.specs.Numbers.{number_of}
 use Rattle.refusal.specs.declared.Refusal.{Refusal}
 use Rattle.refusal.specs.declared.Refusal.TheVariants.{Length, HostBits, Hop, Unknown, RoutesFull, LeavesFull, VerticesFull, StoreFull, Stride, ImageRows, ImageBroken, Line, Field, AnswerRow}
 use Rattle.tree.specs.Ledger.{Answer, changed, hop, none, counts, refused}
+pub use Rattle.line.proofs.Held.{digits_few}
 use Rattle.line.specs.Reply.{column_of, said, written, Few, labelled}
+
+pub labelled_few : (w : List ℕ) (n : ℕ) → n < 2 ^ 64 → length (labelled w n) ≤ length w + 20
+labelled_few w n h = let e : length (labelled w n) ≡ length w + length (decimal n) = length-append w (decimal n) in omega (arith, digits_few n h)
 
 -- how long an answer's words are at most
 pub length_labelled : (w : List ℕ) (n : ℕ) → length (labelled w n) ≡ length w + length (decimal n)
@@ -32,6 +36,15 @@ numbers_short r = length-decimal-le 2 (number_of r) (omega arith) (omega (arith,
 
 three : (a b c : List ℕ) → length (a ++ (b ++ c)) ≡ length a + (length b + length c)
 three a b c = length-append a (b ++ c) ∙ ap (λ n. length a + n) (length-append b c)
+
+pub said_room : (x : Answer) → Few x → length (said x) + 1 ≤ 81
+said_room (changed n) f = omega (arith, length_labelled (codes "ok,") n)
+said_room (hop h) f = omega (arith, length_labelled (codes "hop,") h)
+said_room none f = omega arith
+said_room (counts a b d) f =
+    omega (arith, three (labelled (codes "count,") a) (labelled (codes ",") b) (labelled (codes ",") d), length_labelled (codes "count,") a, length_labelled (codes ",") b, length_labelled (codes ",") d, f.0, f.1, f.2)
+said_room (refused r) f =
+    omega (arith, length-append (labelled (codes "no,") (number_of r)) (labelled (codes ",") (column_of r)), length_labelled (codes "no,") (number_of r), length_labelled (codes ",") (column_of r), numbers_short r)
 
 -- the numbers that a count tells
 pub record Within (routes leaves vertices : ℕ) : Type 0 where

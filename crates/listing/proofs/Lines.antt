@@ -13,6 +13,10 @@ use Rattle.text.proofs.Marks.{parted_at, parted_none, some_part}
 use Rattle.text.proofs.Digits.{hex_length}
 use Rattle.listing.specs.Listing.{refused, prefix, address_row, checked, read_two, read_fields, read_prefix, Reads}
 
+-- one field
+pub no_comma : (bs : List ℕ) → None ≡ first_of 44 bs → read_prefix bs ≡ refused Line
+no_comma bs e = ap read_fields (parted_none 44 bs (sym e))
+
 -- three fields or more
 pub more_commas : (bs f rest : List ℕ) → parted 44 bs ≡ f ∷ parted 44 rest → is_some (first_of 44 rest) ≡ true → read_prefix bs ≡ refused Line
 more_commas bs f rest e g = ap read_fields e ∙ go (first_of 44 rest) refl g

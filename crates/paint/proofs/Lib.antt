@@ -4,3 +4,7 @@ pub mod Below
 pub mod Adding
 pub mod Marking
 pub mod Whole
+pub mod Writes
+pub mod Marks
+pub mod Paints
+pub mod Counts

@@ -2,15 +2,21 @@
 use Rattle.std.proofs.Common.{◌≡◌, ℕ, zero, suc, ◌+◌, ◌-◌, ◌*◌, ◌%◌, ◌^◌, ◌<◌, ◌≤◌, Bool, true, false, cond, eqb, List, [], ◌∷◌, ◌++◌, length, get_or, take, drop, replicate, fold, find, Some, None, Option, option_map, MatchOption, IfSome, sym, refl, ap, ◌∙◌, subst, ⊎_elim, arith, pow_mono, drop-drop}
 use mir.Val.{bool_byte}
 use Rattle.std.specs.List.{range_with_len}
-use Rattle.std.proofs.lemmas.Bool.{eqb-true, eqb-false, ne_eqb, cases_eq}
+use Rattle.std.proofs.lemmas.Bool.{eqb-true, eqb-false, eq-eqb, ne_eqb, lt-ltb, le-ltb, cases_eq}
 use Rattle.std.proofs.lemmas.Nat.{pow-add, one_shl}
 use Rattle.std.proofs.lemmas.List.{length_push, get_or-drop}
 use Rattle.bits.specs.Rows.{Bits, padded}
-use Rattle.image.specs.Image.{number_from, log2}
+use Rattle.image.specs.Image.{number_from, log2, within, unfolded}
 use Rattle.image.proofs.Runs.{log2_pow}
 
 pub power_most : (s : ℕ) → s ≤ 6 → 2 ^ s ≤ 64
 power_most s h = pow_mono h
+
+-- one bit more behind
+pub number_more : (n : ℕ) (q : Bits) (b : Bool) → number_from n (q ++ (b ∷ [])) ≡ 2 * number_from n q + cond b 1 0
+unfolding number_from
+number_more n [] b = refl
+number_more n (c ∷ q) b = number_more (2 * n + cond c 1 0) q b
 
 -- the bits of a row from place i on, with zeros past its end
 bits_from : (q : Bits) (n : ℕ) → padded (suc n) (take (suc n) q) ≡ get_or q 0 false ∷ padded n (take n (drop 1 q))
@@ -75,3 +81,19 @@ power_found s t most o is = go o (same o (subst (Power t 0 s) (sym is) (power_in
     go : (o : Option ℕ) → Power t 0 s o → (o ≡ log2 s t) × IfSome o (λ l. l < s)
     go (Some l) h = (sym (ap (log2 s) h.1 ∙ log2_pow s l h.0), h.0)
     go None h = (sym (no_power s t (λ l less. h l (omega arith) less)), tt)
+
+-- the power that a number is, is below the bound
+pub log2_small : (s t l : ℕ) → Some l ≡ log2 s t → l < s
+unfolding log2
+log2_small zero t l e = let z : ◌≡◌ {A = ℕ} 0 1 = cc in omega arith
+log2_small (suc s) t l e = ⊎_elim
+    (λ (h : t ≡ 2 ^ s). let f : Some l ≡ Some s = e ∙ rw (log2, eq-eqb t (2 ^ s) h) refl in let same : l ≡ s = cc in omega arith)
+    (λ (h : t ≡ 2 ^ s → ⊥). let less = log2_small s t l (e ∙ rw (log2, ne_eqb t (2 ^ s) h) refl) in omega arith)
+    (cases_eq t (2 ^ s))
+
+-- the bits of a leaf, from the power that was found
+pub leaf_within : (W d l : ℕ) (o : Option ℕ) → Some l ≡ o → d - l ≤ W → Some (d - l) ≡ unfolded W d o
+leaf_within W d l o is fits = let e : within W (d - l) ≡ Some (d - l) = rw (within, le-ltb W (d - l) fits) refl in sym e ∙ ap (unfolded W d) is
+
+pub leaf_past : (W d l : ℕ) (o : Option ℕ) → Some l ≡ o → W < d - l → None ≡ unfolded W d o
+leaf_past W d l o is past = let e : within W (d - l) ≡ None = rw (within, lt-ltb W (d - l) past) refl in sym e ∙ ap (unfolded W d) is

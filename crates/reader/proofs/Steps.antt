@@ -1,6 +1,8 @@
 -- The steps of a walk through an image. Assumes nothing.
-use Rattle.std.proofs.Common.{◌≡◌, ℕ, suc, ◌+◌, ◌-◌, ◌*◌, ◌<◌, ◌≤◌, length, drop, None, Option, sym, ap, ◌∙◌, suc-mul, mul_comm, div-lt_iff_lt-mul, le-div_iff_mul-le, mul-suc, arith}
+use Rattle.std.proofs.Common.{◌≡◌, ℕ, suc, ◌+◌, ◌-◌, ◌*◌, ◌<◌, ◌≤◌, length, drop, Some, None, Option, sym, refl, ap, ◌∙◌, suc-mul, mul_comm, div-lt_iff_lt-mul, le-div_iff_mul-le, mul-suc, arith}
+use native.Mathlib.Nat.{sub-zero}
 use Rattle.std.proofs.lemmas.List.{drop-drop}
+use Rattle.std.proofs.lemmas.Bool.{eq-eqb, ne_eqb}
 use Rattle.bits.specs.Rows.{Bits}
 use Rattle.image.specs.Image.{Image, next_edge, edge_at, marks_of, run, log2, unfolded, steps, most_steps, image_walk}
 use Rattle.image.proofs.Steps.{steps_end, steps_on, steps_broken, steps_over}
@@ -18,6 +20,14 @@ pub record Walking (i : Image) (a : Bits) (taken v : ℕ) : Type 0 where
   pub taken_is : taken ≡ i.stride * k
   pub least : 1 ≤ v
   pub rest : image_walk i a ≡ steps i (length a) (most_steps (length a) i.stride - k) k v (drop taken a)
+
+-- before the first step
+module _ (i : Image) (a : Bits) where
+  pub walk_none : i.vertices ≡ 0 → Some 0 ≡ image_walk i a
+  walk_none e = rw (image_walk, eq-eqb i.vertices 0 e) refl
+
+  pub walk_start : (i.vertices ≡ 0 → ⊥) → Walking i a 0 1
+  walk_start some = record { k = 0; taken_is = omega arith; least = omega arith; rest = rw (image_walk, ne_eqb i.vertices 0 some) (ap (λ n. steps i (length a) n 0 1 a) (sym (sub-zero (most_steps (length a) i.stride)))) }
 
 module _ {i : Image} {a : Bits} {taken v : ℕ} (least : 1 ≤ i.stride) (h : Walking i a taken v) where
   pub walk_past : length a ≤ taken → None ≡ image_walk i a

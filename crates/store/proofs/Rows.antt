@@ -1,18 +1,18 @@
 -- The calls on a flat row, by the content of its slots. Assumes nothing.
-use Rattle.std.proofs.Common.{◌≡◌, ℕ, zero, suc, ◌+◌, ◌<◌, min, true, false, cond, eqb, List, [], ◌∷◌, length, set, replicate, Some, None, Ok, sym, refl, ap, ◌∙◌, inl, inr, arith}
-use Rattle.std.proofs.lemmas.Bool.{cases_Bool, true≢false}
+use Rattle.std.proofs.Common.{◌≡◌, ℕ, zero, suc, ◌+◌, ◌<◌, min, true, false, cond, eqb, List, [], ◌∷◌, length, set, replicate, Some, None, Ok, Err, sym, refl, ap, ◌∙◌, inl, inr, arith}
+use Rattle.std.proofs.lemmas.Bool.{cases_Bool, true≢false, both_ways}
 use Rattle.std.proofs.lemmas.Bool.Decides.{nat_tests}
-use Rattle.std.proofs.lemmas.List.Folds.{sum_by-replicate}
 use Rattle.std.proofs.lemmas.List.Sums.{sum_by-cons}
 use Rattle.std.proofs.lemmas.List.Quantifiers.{position-Some}
 use Rattle.bits.specs.Rows.{Bits, same}
 use Rattle.bits.proofs.Tests.{same_is}
 use Rattle.net.specs.Prefix.{row_of}
-use Rattle.store.specs.Content.{Content, absent, present, bad_hop, Wrote, Puts, Removes}
+use Rattle.refusal.specs.declared.Refusal.TheVariants.{Hop, StoreFull}
+use Rattle.store.specs.Content.{Content, absent, present, bad_hop, Wrote, Puts, Removes, Empty}
 use Rattle.store.specs.Numbers.{held_told}
 use Rattle.store.specs.Slots.{Slot, at, holds, told_by, taken, spot, told_at, told_in, used, Apart, row_content}
 use Rattle.store.specs.declared.slot.Entry.{Entry}
-use Rattle.store.proofs.Spots.{of_free, of_entry, site_held, site_free, Written, written, spot_none}
+use Rattle.store.proofs.Spots.{of_free, of_entry, site_held, site_free, Written, written, spot_none, not_taken}
 
 -- free slots, however many
 pub free_at : (n i : ℕ) → at (replicate n None) i ≡ None
@@ -20,14 +20,27 @@ free_at zero i = refl
 free_at (suc n) zero = refl
 free_at (suc n) (suc i) = free_at n i
 
-pub used_none : (n : ℕ) → used (replicate n None) ≡ 0
-used_none n = omega (arith, sum_by-replicate {X = Slot} (λ s. cond (taken s) 1 0) n None)
+pub used_none : (xs : List Slot) → ((k : ℕ) → k < length xs → at xs k ≡ None) → used xs ≡ 0
+used_none [] free = refl
+used_none (s ∷ xs) free =
+    let here = free 0 (omega arith) in
+    let ih = used_none xs (λ k l. free (suc k) (omega arith)) in
+    let more = sum_by-cons (λ s. cond (taken s) 1 0) s xs in
+    grind arith
 
-pub told_none : (n : ℕ) (q : Bits) → told_in (replicate n None) q ≡ absent
-told_none n q = ap (told_at (replicate n None)) (spot_none (replicate n None) q (λ k _. rw (free_at n k) refl))
+pub told_none : (xs : List Slot) (q : Bits) → ((k : ℕ) → k < length xs → at xs k ≡ None) → told_in xs q ≡ absent
+told_none xs q free = ap (told_at xs) (spot_none xs q (λ k l. rw (free k l) refl))
 
-pub apart_none : (n : ℕ) → Apart (replicate n None)
-apart_none n q i j h k = absurd (true≢false (sym h ∙ ap (holds q) (free_at n i)))
+pub row_empty : (xs : List Slot) → ((k : ℕ) → k < length xs → at xs k ≡ None) → Empty (row_content xs)
+row_empty xs free = record { rows = λ q. told_none xs q free; number = used_none xs free }
+
+pub apart_none : (xs : List Slot) → used xs ≡ 0 → Apart xs
+apart_none xs none q i j h k = absurd (both_ways _ (not_taken q (at xs i) (free xs none i)) h)
+  where
+    free : (xs : List Slot) → used xs ≡ 0 → (i : ℕ) → taken (at xs i) ≡ false
+    free [] e i = refl
+    free (s ∷ xs) e zero = let more = sum_by-cons (λ s. cond (taken s) 1 0) s xs in grind arith
+    free (s ∷ xs) e (suc i) = free xs (omega (arith, sum_by-cons (λ s. cond (taken s) 1 0) s xs)) i
 
 row_wrote : (xs ys : List Slot) (q : Bits) (i : ℕ) (s : Slot) → Written xs q i s ys → Wrote q (told_by s) (row_content xs) (row_content ys)
 row_wrote xs ys q i s w = record { rows = w.tells; number = w.number }
@@ -47,6 +60,11 @@ module _ (xs : List Slot) (apart : Apart xs) (s : Entry) where
       let full : eqb (used xs) (min (length xs) 1048576) ≡ false = grind (arith, nat_tests) in
       (rw (good, e, full) refl, row_wrote xs _ (row_of s.prefix) i (Some s) (written xs (row_of s.prefix) i (site_free xs (row_of s.prefix) i apart e l f) (Some s) (of_entry s)))
 
+  pub put_full : spot xs (row_of s.prefix) ≡ None → used xs ≡ (row_content xs).limit → bad_hop s.hop ≡ false → Puts (row_of s.prefix) s.hop (row_content xs) (row_content xs) (Err StoreFull)
+  put_full e full good =
+      let t : eqb (used xs) (min (length xs) 1048576) ≡ true = grind (arith, nat_tests) in
+      (rw (good, e, t) refl, refl)
+
   -- what a write leaves of the facts in the row's type
   pub replaced : (i : ℕ) → spot xs (row_of s.prefix) ≡ Some i → Apart (set xs i (Some s)) × (used (set xs i (Some s)) ≡ used xs)
   replaced i e =
@@ -61,6 +79,9 @@ module _ (xs : List Slot) (apart : Apart xs) (s : Entry) where
       let none : told_in xs (row_of s.prefix) ≡ absent = rw e refl in
       let n = w.number in
       (w.apart, grind arith)
+
+pub put_bad : (c : Content) (q : Bits) (h : ℕ) → bad_hop h ≡ true → Puts q h c c (Err Hop)
+put_bad c q h bad = (rw bad refl, refl)
 
 -- a row whose slots all have an entry is full
 pub all_taken : (xs : List Slot) → ((i : ℕ) → i < length xs → taken (at xs i) ≡ true) → used xs ≡ length xs

@@ -2,9 +2,9 @@
 --   Of q s         the slot is free or holds the row q
 --   Site xs q i    slot i is the place to write an entry of the row q: it is free or holds q, and no other slot holds q
 --   Written        what the write of s at a site leaves, xs before and ys after
-use Rattle.std.proofs.Common.{◌≡◌, ℕ, ◌+◌, ◌<◌, true, false, cond, ◌&&◌, ◌≢◌, List, length, set, Some, None, Option, sym, refl, ap, ◌∙◌, subst, inl, inr, arith, get_or-set_other, get_or-set_same}
+use Rattle.std.proofs.Common.{◌≡◌, ℕ, zero, suc, ◌+◌, ◌<◌, true, false, cond, ◌&&◌, ◌≢◌, List, [], ◌∷◌, length, get_or, set, is_some, Some, None, Option, sym, refl, ap, ◌∙◌, subst, inl, inr, arith, get_or-set_other, get_or-set_same}
 use Rattle.std.proofs.lemmas.Bool.{cases_Bool, cases_eq, cases_lt, true≢false, both_ways, lt-ltb, le-ltb}
-use Rattle.std.proofs.lemmas.List.{get_or_past, length-set}
+use Rattle.std.proofs.lemmas.List.{get_or_past, get_or_read, length-set}
 use Rattle.std.proofs.lemmas.List.Folds.{position_or_len-set}
 use Rattle.std.proofs.lemmas.List.Quantifiers.{position-Some}
 use Rattle.std.proofs.lemmas.List.Sums.{position_or_len_is, sum_by-set}
@@ -28,6 +28,10 @@ spot_first xs q i h before =
       | inl l ↦ (let first = position_or_len_is (holds q) xs i None (omega arith) before (λ _. h) in rw (first, lt-ltb i (length xs) l) refl)
       | inr m ↦ absurd (true≢false (sym h ∙ ap (holds q) (get_or_past xs i None m)))
     ]
+
+-- the same, with the slot as a program reads it
+pub spot_read : (xs : List Slot) (q : Bits) (i : ℕ) (s : Slot) → i < length xs → s ≡ get_or xs i s → true ≡ holds q s → ((k : ℕ) → k < i → holds q (at xs k) ≡ false) → spot xs q ≡ Some i
+spot_read xs q i s l e h before = spot_first xs q i (ap (holds q) (sym (get_or_read xs i s l e None)) ∙ sym h) before
 
 pub spot_none : (xs : List Slot) (q : Bits) → ((k : ℕ) → k < length xs → holds q (at xs k) ≡ false) → spot xs q ≡ None
 spot_none xs q none =
@@ -53,6 +57,43 @@ told_other xs i s x h k = ap (told_at (set xs i s)) (spot_other xs i s x h k) �
     go (Some j) e =
         let ne : j ≢ i = λ z. both_ways _ h (subst (λ n. holds x (at xs n) ≡ true) z (position-Some (holds x) xs j None e).1) in
         rw e (ap told_by (get_or-set_other xs i j s None ne))
+
+-- a slot that holds a row is there, and is taken
+pub held_inside : (xs : List Slot) (q : Bits) (i : ℕ) → holds q (at xs i) ≡ true → (i < length xs) × (taken (at xs i) ≡ true)
+held_inside [] q i h = absurd (true≢false (sym h))
+held_inside (None ∷ xs) q zero h = absurd (true≢false (sym h))
+held_inside (Some e ∷ xs) q zero h = (omega arith, refl)
+held_inside (s ∷ xs) q (suc i) h = let ih = held_inside xs q i h in (omega arith, ih.1)
+
+-- so is a slot that tells something
+pub told_inside : (xs : List Slot) (i : ℕ) → is_some (told_by (at xs i)) ≡ true → (i < length xs) × (taken (at xs i) ≡ true)
+told_inside [] i t = absurd (true≢false (sym t))
+told_inside (None ∷ xs) zero t = absurd (true≢false (sym t))
+told_inside (Some e ∷ xs) zero t = (omega arith, refl)
+told_inside (s ∷ xs) (suc i) t = let ih = told_inside xs i t in (omega arith, ih.1)
+
+-- to empty a slot that tells nothing changes nothing
+pub set_free : (xs : List Slot) (i : ℕ) → is_some (told_by (at xs i)) ≡ false → set xs i None ≡ xs
+set_free [] i t = refl
+set_free (None ∷ xs) zero t = refl
+set_free (Some e ∷ xs) zero t = absurd (true≢false t)
+set_free (s ∷ xs) (suc i) t = ap (λ ys. s ∷ ys) (set_free xs i t)
+
+-- to empty a slot keeps rows apart
+pub free_apart : (xs : List Slot) (i : ℕ) → Apart xs → Apart (set xs i None)
+free_apart xs i apart q j k h g = apart q j k (before j h) (before k g)
+  where
+    before : (k : ℕ) → holds q (at (set xs i None) k) ≡ true → holds q (at xs k) ≡ true
+    before k h =
+        elim (cases_eq k i) [
+          | inl e ↦ absurd (both_ways _ (freed xs i) (subst (λ n. holds q (at (set xs i None) n) ≡ true) e h))
+          | inr ne ↦ rw (← get_or-set_other xs i k None None ne) h
+        ]
+      where
+        freed : (xs : List Slot) (i : ℕ) → holds q (at (set xs i None) i) ≡ false
+        freed [] i = refl
+        freed (s ∷ xs) zero = refl
+        freed (s ∷ xs) (suc i) = freed xs i
 
 abbrev pub Of : Bits → Slot → Type 0
 Of q s = (x : Bits) → holds x s ≡ (taken s && same x q)

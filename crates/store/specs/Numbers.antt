@@ -10,7 +10,7 @@ use Rattle.bits.specs.Rows.{Bits, same}
 use Rattle.bits.proofs.Fronts.{same_self}
 use Rattle.bits.proofs.Sets.{NoRepeats}
 use Rattle.net.specs.Prefix.{row_of}
-use Rattle.store.specs.Content.{Listed, Sound, present}
+use Rattle.store.specs.Content.{Listed, Counted, Sound, present}
 use Rattle.store.specs.Slots.{Slot, at, holds, taken, told_by, spot, told_in, used, Apart, row_content}
 
 -- no slot has a row that has no spot
@@ -82,7 +82,10 @@ rows_once (Some e ∷ xs) apart = (new, rows_once xs (apart_tail (Some e) xs apa
 pub rows_listed : (xs : List Slot) → Apart xs → Listed (told_in xs) (used xs) (rows xs)
 rows_listed xs apart = record { once = rows_once xs apart; all = rows_all xs; long = rows_number xs }
 
+pub used_counted : (xs : List Slot) → Apart xs → Counted (told_in xs) (used xs)
+used_counted xs apart = ∣ (rows xs, rows_listed xs apart) ∣₁
+
 -- a flat row is sound, whatever it holds
 pub row_sound : (xs : List Slot) (n : ℕ) → Apart xs → n ≡ used xs → n ≤ 1048576 → Sound (row_content xs)
 row_sound xs n apart counted few =
-    record { within = omega (arith, count_by-le-length taken xs); most = omega arith; counted = ∣ (rows xs, rows_listed xs apart) ∣₁ }
+    record { within = omega (arith, count_by-le-length taken xs); most = omega arith; counted = used_counted xs apart }

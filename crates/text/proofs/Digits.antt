@@ -14,10 +14,20 @@ pub record Written (bs : List ℕ) (i n : ℕ) : Type 0 where
   pub rest : decimal_from n (drop i bs) ≡ decimal_from 0 bs
   pub small : n < 10 ^ i
 
+pub written_none : (bs : List ℕ) → Written bs 0 0
+written_none bs = record { rest = refl; small = omega arith }
+
 decimal_step : (bs : List ℕ) (i n : ℕ) → i < length bs
     → decimal_from n (drop i bs) ≡ cond (is_digit (get_or bs i 0)) (decimal_from (n * 10 + (get_or bs i 0 - 48)) (drop (i + 1) bs)) None
 unfolding decimal_from
 decimal_step bs i n h = at_drop_more (decimal_from n) bs i 0 h
+
+-- there is room for one digit more
+pub written_room : (bs : List ℕ) (i n : ℕ) → i < 5 → Written bs i n → n < 10000
+written_room bs i n h w =
+    let m : 10 ^ i ≤ 10 ^ 4 = pow-le-pow_right {n = 10} (omega arith) {i = i} {j = 4} (omega arith) in
+    let s = w.small in
+    omega arith
 
 -- a byte is a digit of this value
 abbrev pub digit_of : ℕ → Option ℕ

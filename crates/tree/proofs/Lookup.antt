@@ -24,6 +24,10 @@ module _ (rs : Routes) (q : Bits) (is_leaf : Mem q (leaves (pushed rs) [])) wher
   pub nothing_below : any (λ r. over q r.at) rs ≡ false
   nothing_below = sym (branching_is rs q) ∙ sym (pushed_is rs q) ∙ ((leaf_is (pushed rs) q).0 is_leaf).ends
 
+  -- no route that begins with a leaf is longer than the leaf
+  pub no_longer : (r : Route) → Mem r rs → begins q r.at ≡ true → length r.at ≤ length q
+  no_longer r m h = let none = above_is q r.at ∙ any_none _ rs nothing_below r m in grind (arith, nat_tests)
+
   module _ (a : Bits) (in_front : begins q a ≡ true) where
     -- so no match of a row is longer than the row's leaf
     pub match_fits : (r : Route) → Mem r rs → begins r.at a ≡ true → length r.at ≤ length q

@@ -1,8 +1,7 @@
-use Rattle.std.proofs.Common.{◌≡◌, ◌*◌, ◌+◌, ◌-◌, ◌<◌, length, get_or, ap, subst, add-mul, arith}
-use Rattle.std.proofs.lemmas.Nat.{mul-le}
+use Rattle.std.proofs.Common.{◌≡◌, ◌*◌, ◌+◌, ◌-◌, ◌<◌, length, get_or, ap, subst, arith}
 use Rattle.graph.specs.Slots.{in_use}
 use Rattle.image.specs.Image.{edges_each}
-use Rattle.imaging.proofs.Filling.{Filled, filled_more}
+use Rattle.imaging.proofs.Filling.{Filled, vertex_room, filled_more}
 use Rattle.imaging.proofs.Picturing.{images}
 use Rattle.imaging.proofs.making.draw_all.Goals as goal
 
@@ -16,8 +15,8 @@ loop-x-preserved c =
     let each : a + k - a ≡ edges_each s = omega (arith, c.edges-each.ensures.is) in
     let same : c.deref-slot-items.result.now ≡ c.of.result.slots.items = c.deref-slot-items.ensures.0 in
     let less : l.x < length (in_use c.args.table.now.slots) = omega (arith, c.loop-x-test.true, ap length same, c.of.ensures.counted) in
-    let room = mul-le (l.x + 1) (edges_each s) (length (in_use c.args.table.now.slots)) (edges_each s) (omega arith) (omega arith) in
-    filled_more l.invariant a (a + k - a) c.draw.new.edges from each (omega (arith, from, each, room, add-mul l.x 1 (edges_each s), c.requires.edges, l.auto.edges)) (omega (arith, c.draw.auto.edges))
+    let room = vertex_room l.x (length (in_use c.args.table.now.slots)) k s (length c.args.edges.now) less c.edges-each.ensures.is c.requires.edges in
+    filled_more l.invariant a (a + k - a) c.draw.new.edges from each (omega (arith, each, room, l.auto.edges)) (omega (arith, c.draw.auto.edges))
     (omega (arith, less, c.requires.marks, l.auto.marks)) (ap (λ xs. get_or xs l.x 0) same) c.draw.ensures c.marks.ensures
 
 pub returns : goal.returns

@@ -1,10 +1,10 @@
 use Rattle.engine.specs.Seen.{state}
-use Rattle.engine.proofs.Looking.{found, always_ends}
+use Rattle.engine.proofs.Looking.{found, lookup_ends}
 use Rattle.engine.proofs.engine.Engine.lookup.Goals as goal
 
 pub returns-in_err-depth : goal.returns-in_err-depth
 returns-in_err-depth g c = λ given rs serves.
-    absurd (always_ends given rs (state c.args.self.now) (g.F.Family.row c.args.address.now) serves (g.met.F.Family.rows c.args.address.now) c.in_err-depth.ensures)
+    absurd (lookup_ends given rs (state c.args.self.now) (g.F.Family.row c.args.address.now) serves (g.met.F.Family.rows c.args.address.now) c.in_err-depth.ensures)
 
 pub returns-in_default : goal.returns-in_default
 returns-in_default g c = λ given rs serves.

@@ -1,7 +1,7 @@
 use Rattle.std.proofs.Common.{subst, rules}
 use Rattle.graph.specs.Find.{Spare}
 use Rattle.graph.proofs.Count.{length_in_use, tally_at_most}
-use Rattle.graph.proofs.Forking.{found, refused, kept_made, made, counted_made, sound_made}
+use Rattle.graph.proofs.Forking.{found, refused, kept_made, made, made_counted, made_sound}
 use Rattle.graph.proofs.table.Table.fork.Goals as goal
 
 pub overflow_add-self : goal.overflow_add-self
@@ -19,13 +19,13 @@ pub invariant_of-self-clause-counted : goal.invariant_of-self-clause-counted
 invariant_of-self-clause-counted c =
     let table = c.args.self.now in
     let slot = c.in-Err-Some in
-    counted_made table.slots c.args.zero c.args.one _ _ c.lead-zero.ensures c.lead-one.ensures table.sound table.long slot.ensures.0 slot.n (subst (Spare table.slots) slot.field-0-is slot.ensures.1) _ c.link.ensures table.used table.counted
+    made_counted table.slots c.args.zero c.args.one _ _ c.lead-zero.ensures c.lead-one.ensures table.sound table.long slot.ensures.0 slot.n (subst (Spare table.slots) slot.field-0-is slot.ensures.1) _ c.link.ensures table.used table.counted
 
 pub invariant_of-self-clause-sound : goal.invariant_of-self-clause-sound
 invariant_of-self-clause-sound c =
     let table = c.args.self.now in
     let slot = c.in-Err-Some in
-    sound_made table.slots c.args.zero c.args.one _ _ c.lead-zero.ensures c.lead-one.ensures table.sound table.long slot.ensures.0 slot.n (subst (Spare table.slots) slot.field-0-is slot.ensures.1) _ c.link.ensures
+    made_sound table.slots c.args.zero c.args.one _ _ c.lead-zero.ensures c.lead-one.ensures table.sound table.long slot.ensures.0 slot.n (subst (Spare table.slots) slot.field-0-is slot.ensures.1) _ c.link.ensures
 
 pub returns-in-Err-Some-clause-kept : goal.returns-in-Err-Some-clause-kept
 returns-in-Err-Some-clause-kept c =
