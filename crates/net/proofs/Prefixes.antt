@@ -57,7 +57,7 @@ one_for_a_row p q e =
     let all : Equal q.halves.first q.halves.second q.len = subst (λ n. Equal q.halves.first q.halves.second n) (same_length p q e) seconds in
     all q.short q.fits q.clear
 
--- the derived `==` compares the fields, and so the rows
+-- `==` compares the fields, and so the rows
 abbrev pub equal : Prefix → Prefix → Bool
 equal p q = (eqb p.halves.first q.halves.first && eqb p.halves.second q.halves.second) && eqb p.len q.len
 

@@ -7,7 +7,7 @@ use bits::Halves;
 
 pub mod calls;
 
-#[derive(Clone, Copy, PartialEq, Eq, Debug)]
+#[derive(Clone, Copy, Debug)]
 pub struct Prefix {
     halves: Halves,
     len: u8,

@@ -3,7 +3,7 @@ use Rattle.std.proofs.lemmas.Bool.{le-leb, lt-leb}
 use Rattle.bits.specs.Rows.{Bits, begins, same}
 use Rattle.bits.proofs.Fronts.{begins_is}
 use Rattle.net.specs.Prefix.{row_of}
-use Rattle.net.proofs.Prefixes.{length_row, equal_by_row}
+use Rattle.net.proofs.Prefixes.{length_row}
 use Rattle.net.proofs.prefix.Prefix.begins.Goals as goal
 
 shorter : (p q : Bits) → length q < length p → false ≡ begins p q
@@ -23,4 +23,4 @@ returns c =
     let q = c.args.other.now in
     let h = c.if-other-self.false in
     let cut : row_of c.front-front.result ≡ take (length (row_of p)) (row_of q) = c.front-front.ensures ∙ ap (λ k. take k (row_of q)) (sym (length_row p)) in
-    c.eq.ensures ∙ equal_by_row p c.front-front.result ∙ ap (λ r. same (row_of p) r) cut ∙ fronts (row_of p) (row_of q) (omega (arith, length_row p, length_row q))
+    c.eq.ensures ∙ ap (λ r. same (row_of p) r) cut ∙ fronts (row_of p) (row_of q) (omega (arith, length_row p, length_row q))
