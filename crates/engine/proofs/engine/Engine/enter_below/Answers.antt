@@ -31,7 +31,8 @@ returns-in_err-drawn g c = λ given rs ready room is_leaf over.
     let full = c.in_err-drawn.ensures (pushed rs) ready.serves.starts ready.serves.holds in
     let out = err_from_is_err_and c.from_residual-in_err-drawn.result c.from_residual-in_err-drawn.ensures.1 in
     rw (out.1, out.2)
-    (drawn_full given rs ss (room_checks given rs ss) s (state g.F.Family.W g.R.Store.content g.L.Store.content c.grow.new.self) (grown p (pushed rs)) (entering rs p c.args.hop) _ full (no_vertex given rs ss room free) ready.serves)
+    (drawn_full given rs ss (room_checks given rs ss) s (state g.F.Family.W g.R.Store.content g.L.Store.content c.grow.new.self)
+    (grown p (pushed rs)) (entering rs p c.args.hop) _ full (no_vertex given rs ss room free) ready.serves)
 
 pub returns : goal.returns
 returns g c = λ given rs ready room is_leaf over.

@@ -17,7 +17,8 @@ returns-in_err-drawn g c = λ given rs ready stands.
     let full = c.in_err-drawn.ensures (pushed rs) ready.serves.starts ready.serves.holds in
     let out = err_from_is_err_and c.from_residual.result c.from_residual.ensures.1 in
     rw (out.1, out.2)
-    (drawn_full given rs ss (fold_checks rs ss) s (state g.F.Family.W g.R.Store.content g.L.Store.content c.fold.new.self) (pruned (others s.routes.map p) (pushed rs) p) (struck_tree rs p s.routes.map ready.serves.stored.route_hops) _ full (no_fold rs ss) ready.serves)
+    (drawn_full given rs ss (fold_checks rs ss) s (state g.F.Family.W g.R.Store.content g.L.Store.content c.fold.new.self)
+    (pruned (others s.routes.map p) (pushed rs) p) (struck_tree rs p s.routes.map ready.serves.stored.route_hops) _ full (no_fold rs ss) ready.serves)
 
 pub returns : goal.returns
 returns g c = λ given rs ready stands.
