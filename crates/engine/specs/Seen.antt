@@ -1,9 +1,9 @@
 -- An engine's state. Assumes nothing.
---   state e    what the engine e is to its callers, by what its family and its stores say of themselves
-use Rattle.net.specs.declared.family.Family as family
-use Rattle.store.specs.declared.store.Store as store
+--   state W routes leaves e    what the engine e is to its callers, by the width of its family and by what its two stores say that they hold
+use Rattle.std.specs.Prelude.{ℕ}
+use Rattle.store.specs.Content.{Content}
 use Rattle.engine.specs.State.{State}
 use Rattle.engine.specs.declared.engine.Engine.{Engine}
 
-abbrev pub state : {F R L : Type 0} {f : family.Ghosts F} {r : store.Ghosts R} {l : store.Ghosts L} → Engine F R L f r l → State
-state {f = f} {r = r} {l = l} e = record { width = f.W; routes = r.content e.routes; leaves = l.content e.leaves; slots = e.table.slots; start = e.start }
+abbrev pub state : {F R L : Type 0} → ℕ → (R → Content) → (L → Content) → Engine F R L → State
+state W routes leaves e = record { width = W; routes = routes e.routes; leaves = leaves e.leaves; slots = e.table.slots; start = e.start }

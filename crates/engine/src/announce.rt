@@ -21,8 +21,9 @@ impl<F: Family, R: Store, L: Store> Engine<F, R, L> {
     // Refused in this order: a length over the width, a bit past the length, a number that is no hop; and for a new route no room for it,
     // for the matched leaves afterwards, for the branching shapes before and after as one set.
     pub fn announce(&mut self, address: &F, len: u64, hop: u64) -> Result<u64, Refusal>
-        ensures { (g : Given) (rs : Routes) → Serves g rs (state self.old) →
-            Settles g (turn g rs (announcing (F.Family.row address.now) len hop)) (state self.old) (state self.new) result }
+        ensures { (g : Given) (rs : Routes) → Serves g rs (state F.W R.content L.content self.old) →
+            Settles g (turn g rs (announcing (F.Family.row address.now) len hop)) (state F.W R.content L.content self.old)
+            (state F.W R.content L.content self.new) result }
     {
         let at = network(address, len)?;
         let hop = refusal::hop(hop)?;
@@ -36,7 +37,7 @@ impl<F: Family, R: Store, L: Store> Engine<F, R, L> {
 
     // A route that does not stand yet.
     fn enter(&mut self, at: &Prefix, hop: u16) -> Result<u64, Refusal>
-        ensures { Enters (row_of at.now) hop (state self.old) (state self.new) result }
+        ensures { Enters (row_of at.now) hop (state F.W R.content L.content self.old) (state F.W R.content L.content self.new) result }
     {
         if self.routes.held() == self.routes.limit() {
             return Err(Refusal::RoutesFull);
@@ -51,7 +52,7 @@ impl<F: Family, R: Store, L: Store> Engine<F, R, L> {
 
     // At a node of the tree, which the edge leads to: the graph stays.
     fn enter_at(&mut self, at: &Prefix, edge: Edge, hop: u16) -> Result<u64, Refusal>
-        ensures { EntersAt (row_of at.now) edge hop (state self.old) (state self.new) result }
+        ensures { EntersAt (row_of at.now) edge hop (state F.W R.content L.content self.old) (state F.W R.content L.content self.new) result }
     {
         let added = count_missing(&self.routes, &self.leaves, &self.table, at, edge);
         self.check_room(added)?;
@@ -61,7 +62,7 @@ impl<F: Family, R: Store, L: Store> Engine<F, R, L> {
 
     // Below a leaf, which gives way to one leaf for each bit between them, and to the route's own.
     fn enter_below(&mut self, leaf: &Prefix, at: &Prefix, hop: u16) -> Result<u64, Refusal>
-        ensures { EntersBelow (row_of leaf.now) (row_of at.now) hop (state self.old) (state self.new) result }
+        ensures { EntersBelow (row_of leaf.now) (row_of at.now) hop (state F.W R.content L.content self.old) (state F.W R.content L.content self.new) result }
     {
         let added = self.added_below(leaf, at);
         self.check_room(added)?;
@@ -73,7 +74,7 @@ impl<F: Family, R: Store, L: Store> Engine<F, R, L> {
 
     // How many matched leaves more there are once a leaf gives way: one for each bit between, or the route's own alone.
     fn added_below(&self, leaf: &Prefix, at: &Prefix) -> u64
-        ensures { result ≡ (if present ((state self.now).leaves.map (row_of leaf.now)) then length (row_of at.now) - length (row_of leaf.now) else 1) }
+        ensures { result ≡ (if present ((L.content self.now.leaves).map (row_of leaf.now)) then length (row_of at.now) - length (row_of leaf.now) else 1) }
     {
         if self.leaves.get(leaf).is_none() {
             return 1;
@@ -83,7 +84,7 @@ impl<F: Family, R: Store, L: Store> Engine<F, R, L> {
 
     // Refused where the store of the leaves has no room for so many more.
     fn check_room(&self, added: u64) -> Result<(), Refusal>
-        ensures { RoomFor (state self.now).leaves added result }
+        ensures { RoomFor (L.content self.now.leaves) added result }
     {
         let room = self.leaves.limit().saturating_sub(self.leaves.held());
         if added > room {

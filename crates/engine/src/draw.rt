@@ -24,7 +24,7 @@ pub(super) struct Drawn {
 impl<F: Family, R: Store, L: Store> Engine<F, R, L> {
     // The graph in which every node above the prefix branches too, beside the old one. Refused, the old one is left.
     pub(super) fn grow(&mut self, at: &Prefix) -> Result<Drawn, Refusal>
-        ensures { Grows (state self.old) (state self.new) (row_of at.now) result }
+        ensures { Grows (state F.W R.content L.content self.old) (state F.W R.content L.content self.new) (row_of at.now) result }
     {
         let before = self.table.count();
         let start = self.table.grow(self.start, at);
@@ -33,7 +33,7 @@ impl<F: Family, R: Store, L: Store> Engine<F, R, L> {
 
     // The graph folded back along the prefix's path, as if its route were gone, beside the old one. Refused, the old one is left.
     pub(super) fn fold(&mut self, at: &Prefix) -> Result<Drawn, Refusal>
-        ensures { Folds (state self.old) (state self.new) (row_of at.now) result }
+        ensures { Folds (state F.W R.content L.content self.old) (state F.W R.content L.content self.new) (row_of at.now) result }
     {
         let before = self.table.count();
         let start = prune(&mut self.table, &self.routes, self.start, at);
@@ -43,7 +43,7 @@ impl<F: Family, R: Store, L: Store> Engine<F, R, L> {
     // What came of drawing: the new start with the number of vertices made, or, refused, the old graph alone.
     fn drawn(&mut self, before: usize, start: Result<Edge, Refusal>) -> Result<Drawn, Refusal>
         ensures { (xs : List Vertex) (a b : Shape) → Draft xs self.old.table.slots self.old.start before a b start →
-            Draws (redrawn (state self.old) xs self.old.start) (state self.new) a b result }
+            Draws (redrawn (state F.W R.content L.content self.old) xs self.old.start) (state F.W R.content L.content self.new) a b result }
     {
         match start {
             Ok(start) => {
@@ -59,7 +59,7 @@ impl<F: Family, R: Store, L: Store> Engine<F, R, L> {
 
     // The start moves, and the vertices that it does not reach are freed.
     pub(super) fn redraw(&mut self, start: Edge)
-        ensures { Moves (state self.old) (state self.new) start }
+        ensures { Moves (state F.W R.content L.content self.old) (state F.W R.content L.content self.new) start }
     {
         self.start = start;
         self.table.keep_only(start);

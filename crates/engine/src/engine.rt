@@ -1,21 +1,17 @@
 // An engine for addresses of the family F, over a store of the routes and a store of the leaves.
-ghost use Rattle.std.specs.Prelude.{◌≤◌};
-
 use graph::{Edge, Table};
 use net::Family;
 use std::marker::PhantomData;
 use store::Store;
 
-// The ghost field ties an engine to what its family and its stores say of themselves, so that clauses name its state alone. That it serves
-// a list of routes is no fact of its type: each promise is for every list that it serves.
+// That it serves a list of routes is no fact of its type: each promise is for every list that it serves.
 #[derive(Drop)]
-pub struct Engine<F: Family, R: Store, L: Store> {
+pub struct Engine<F, R, L> {
     pub(super) routes: R,
     pub(super) leaves: L,
     pub(super) table: Table,
     pub(super) start: Edge,
     pub(super) family: PhantomData<F>,
-    ghost narrow: { F.W ≤ 128 },
 }
 
 impl<F: Family, R: Store, L: Store> Engine<F, R, L> {
@@ -29,8 +25,8 @@ impl<F: Family, R: Store, L: Store> Engine<F, R, L> {
 
     // Sets an engine up over two stores, and empties both. The law over runs holds of it, with no calls yet.
     pub fn new(mut routes: R, mut leaves: L) -> Engine<F, R, L>
-        ensures serves { Serves (given_by F.W (R.content routes) (L.content leaves)) [] (state result) }
-        ensures ran { Ran (given_by F.W (R.content routes) (L.content leaves)) [] [] (state result) }
+        ensures serves { Serves (given_by F.W (R.content routes) (L.content leaves)) [] (state F.W R.content L.content result) }
+        ensures ran { Ran (given_by F.W (R.content routes) (L.content leaves)) [] [] (state F.W R.content L.content result) }
     {
         routes.clear();
         leaves.clear();
@@ -45,7 +41,7 @@ impl<F: Family, R: Store, L: Store> Engine<F, R, L> {
 
     // The hop of the address's leaf, or none.
     pub fn lookup(&self, address: &F) -> Option<u16>
-        ensures { (g : Given) (rs : Routes) → Serves g rs (state self.now) →
+        ensures { (g : Given) (rs : Routes) → Serves g rs (state F.W R.content L.content self.now) →
             Answers g rs (looking (F.Family.row address.now)) (looked result) }
     {
         let depth = self.table.walk(self.start, address)?;
@@ -59,8 +55,8 @@ impl<F: Family, R: Store, L: Store> Engine<F, R, L> {
 
     // Standing routes, matched leaves, vertices.
     pub fn count(&self) -> (u64, u64, u64)
-        ensures numbers { result ≡ ((state self.now).routes.held, (state self.now).leaves.held, length (in_use (state self.now).slots)) }
-        ensures ledger { (g : Given) (rs : Routes) → Numbered rs (state self.now) → Answers g rs counting (counts_answer result) }
+        ensures numbers { let s = state F.W R.content L.content self.now in result ≡ (s.routes.held, s.leaves.held, length (in_use s.slots)) }
+        ensures ledger { (g : Given) (rs : Routes) → Numbered rs (state F.W R.content L.content self.now) → Answers g rs counting (counts_answer result) }
     {
         (
             self.routes.held(),

@@ -20,8 +20,8 @@ pub struct Turn<F> {
 impl<F: Family + Copy, R: Store, L: Store> Engine<F, R, L> {
     // One call more: what held of all calls so far holds with this one too.
     pub fn step(&mut self, call: Call<F>) -> Answer
-        ensures { (g : ledger.Given) (calls : List ledger.Call) (given : List ledger.Answer) → Ran g calls given (state self.old) →
-            Ran g (calls ++ (call_of F.Family.row call ∷ [])) (given ++ (answer_of result ∷ [])) (state self.new) }
+        ensures { (g : ledger.Given) (calls : List ledger.Call) (given : List ledger.Answer) → Ran g calls given (state F.W R.content L.content self.old) →
+            Ran g (calls ++ (call_of F.Family.row call ∷ [])) (given ++ (answer_of result ∷ [])) (state F.W R.content L.content self.new) }
     {
         match call {
             Call::Announce(address, len, hop) => Answer::from(self.announce(&address, len, hop)),
@@ -39,7 +39,7 @@ pub fn replay<F: Family + Copy, R: Store, L: Store>(
     turns: &mut [Turn<F>],
 ) -> Engine<F, R, L>
     ensures calls { calls_of F.Family.row turns.new ≡ calls_of F.Family.row turns.old }
-    ensures ran { Ran (given_by F.W (R.content routes) (L.content leaves)) (calls_of F.Family.row turns.old) (answers_of turns.new) (state result) }
+    ensures ran { Ran (given_by F.W (R.content routes) (L.content leaves)) (calls_of F.Family.row turns.old) (answers_of turns.new) (state F.W R.content L.content result) }
 {
     let mut engine = Engine::new(routes, leaves);
     for turn in turns.iter_mut() {

@@ -22,8 +22,9 @@ impl<F: Family, R: Store, L: Store> Engine<F, R, L> {
     // Refused in this order: a length over the width, a bit past the length, no such route, and no room for the branching shapes
     // before and after as one set.
     pub fn withdraw(&mut self, address: &F, len: u64) -> Result<u64, Refusal>
-        ensures { (g : Given) (rs : Routes) → Serves g rs (state self.old) →
-            Settles g (turn g rs (withdrawing (F.Family.row address.now) len)) (state self.old) (state self.new) result }
+        ensures { (g : Given) (rs : Routes) → Serves g rs (state F.W R.content L.content self.old) →
+            Settles g (turn g rs (withdrawing (F.Family.row address.now) len)) (state F.W R.content L.content self.old)
+            (state F.W R.content L.content self.new) result }
     {
         let at = network(address, len)?;
         if self.routes.get(&at).is_none() {
@@ -34,7 +35,7 @@ impl<F: Family, R: Store, L: Store> Engine<F, R, L> {
 
     // A route that stands.
     fn strike(&mut self, at: &Prefix) -> Result<u64, Refusal>
-        ensures { Strikes (row_of at.now) (state self.old) (state self.new) result }
+        ensures { Strikes (row_of at.now) (state F.W R.content L.content self.old) (state F.W R.content L.content self.new) result }
     {
         let next = next_shorter(&self.routes, at);
         let drawn = self.fold(at)?;
@@ -45,8 +46,8 @@ impl<F: Family, R: Store, L: Store> Engine<F, R, L> {
 
     // Its leaves, in the graph from the new start on.
     fn clear(&mut self, at: &Prefix, start: Edge, next: Option<u16>)
-        ensures rest { state self.new ≡ rewritten (state self.old) (state self.new).routes (state self.new).leaves }
-        ensures clears { Clears (row_of at.now) start next (state self.old) (state self.new) }
+        ensures rest { state F.W R.content L.content self.new ≡ rewritten (state F.W R.content L.content self.old) (R.content self.new.routes) (L.content self.new.leaves) }
+        ensures clears { Clears (row_of at.now) start next (state F.W R.content L.content self.old) (state F.W R.content L.content self.new) }
     {
         let spot = self.table.descend(start, at);
         if spot.depth == at.len() as usize {

@@ -20,8 +20,8 @@ pub fn lookup_by_image<F: Family, R: Store, L: Store>(
     marks: &mut [u64],
     address: &F,
 ) -> Result<(usize, Option<u16>), Refusal>
-    ensures { (g : Given) (rs : Routes) → Serves g rs (state engine.now) →
-        Looked g rs (state engine.now) (F.Family.row address.now) stride edges.old edges.new marks.old marks.new result }
+    ensures { (g : Given) (rs : Routes) → Serves g rs (state F.W R.content L.content engine.now) →
+        Looked g rs (state F.W R.content L.content engine.now) (F.Family.row address.now) stride edges.old edges.new marks.old marks.new result }
 {
     let vertices = make(engine, stride, edges, marks)?;
     let mut reader = Reader::empty();

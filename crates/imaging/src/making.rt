@@ -46,9 +46,9 @@ pub fn make<F: Family, R: Store, L: Store>(
     edges: &mut [u16],
     marks: &mut [u64],
 ) -> Result<u64, Refusal>
-    ensures makes { Makes (state engine.now) stride edges.old edges.new marks.old marks.new result }
-    ensures shows { IfOk result (λ V. (g : Given) (rs : Routes) → Serves g rs (state engine.now) →
-        Shows rs (state engine.now) (picture edges.new marks.new stride V)) }
+    ensures makes { Makes (state F.W R.content L.content engine.now) stride edges.old edges.new marks.old marks.new result }
+    ensures shows { IfOk result (λ V. (g : Given) (rs : Routes) → Serves g rs (state F.W R.content L.content engine.now) →
+        Shows rs (state F.W R.content L.content engine.now) (picture edges.new marks.new stride V)) }
 {
     let table = engine.table();
     let vertices = table.count() as u64;

@@ -27,8 +27,8 @@ pub fn answer_line<F: Family + Copy, R: Store, L: Store>(
     ensures row { RowKept row.old row.new result }
     ensures short { length row.old < least_row → engine.new ≡ engine.old }
     ensures ill { (why : refusals.Refusal) → read_line F.W line.now ≡ bad why → engine.new ≡ engine.old }
-    ensures told { (g : Given) (ls : List (List ℕ)) → least_row ≤ length row.old → Told g ls (state engine.old) →
-        Told g (ls ++ (line.now ∷ [])) (state engine.new) × Replied (reply_to g ls line.now) row.old row.new result }
+    ensures told { (g : Given) (ls : List (List ℕ)) → least_row ≤ length row.old → Told g ls (state F.W R.content L.content engine.old) →
+        Told g (ls ++ (line.now ∷ [])) (state F.W R.content L.content engine.new) × Replied (reply_to g ls line.now) row.old row.new result }
 {
     if row.len() < LEAST_ROW {
         return Err(Refusal::AnswerRow);
@@ -40,8 +40,8 @@ pub fn answer_line<F: Family + Copy, R: Store, L: Store>(
 // The engine's answer to a line: to the call that it stands for, or the line's own refusal.
 fn tell<F: Family + Copy, R: Store, L: Store>(engine: &mut Engine<F, R, L>, line: &[u8]) -> Answer
     ensures ill { (why : refusals.Refusal) → read_line F.W line.now ≡ bad why → engine.new ≡ engine.old }
-    ensures told { (g : Given) (ls : List (List ℕ)) → Told g ls (state engine.old) →
-        Told g (ls ++ (line.now ∷ [])) (state engine.new)
+    ensures told { (g : Given) (ls : List (List ℕ)) → Told g ls (state F.W R.content L.content engine.old) →
+        Told g (ls ++ (line.now ∷ [])) (state F.W R.content L.content engine.new)
         × ((line_turn g (after_calls g [] (line_calls g.width ls)) line.now).1 ≡ answer_of result) }
 {
     match read_call::<F>(line) {

@@ -1,10 +1,10 @@
 -- What a session shows of itself. Assumes nothing.
---   hearing s    what the session s is to its callers
-use Rattle.net.specs.declared.family.Family as family
-use Rattle.store.specs.declared.store.Store as store
+--   hearing W routes leaves s    what the session s is to its callers, by the width of its family and by what its two stores say that they hold
+use Rattle.std.specs.Prelude.{ℕ}
+use Rattle.store.specs.Content.{Content}
 use Rattle.engine.specs.Seen.{state}
 use Rattle.session.specs.Session.{Hearing}
 use Rattle.session.specs.declared.session.Session.{Session}
 
-abbrev pub hearing : {F R L : Type 0} {f : family.Ghosts F} {r : store.Ghosts R} {l : store.Ghosts L} → Session F R L f r l → Hearing
-hearing s = record { engine = state s.engine; line = s.line }
+abbrev pub hearing : {F R L : Type 0} → ℕ → (R → Content) → (L → Content) → Session F R L → Hearing
+hearing W routes leaves s = record { engine = state W routes leaves s.engine; line = s.line }

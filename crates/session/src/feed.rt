@@ -28,7 +28,7 @@ const LINE_FEED: u8 = b'\n';
 impl<F: Family + Copy, R: Store, L: Store> Session<F, R, L> {
     // Sets an engine up over two stores, whatever they hold. Nothing was fed, and nothing given out.
     pub fn new(routes: R, leaves: L) -> Session<F, R, L>
-        ensures { Heard (given_by F.W (R.content routes) (L.content leaves)) [] [] (hearing result) }
+        ensures { Heard (given_by F.W (R.content routes) (L.content leaves)) [] [] (hearing F.W R.content L.content result) }
     {
         let line = Buffer::empty();
         Session {
@@ -44,8 +44,8 @@ impl<F: Family + Copy, R: Store, L: Store> Session<F, R, L> {
         ensures rest { drop result.written row.new ≡ drop result.written row.old }
         ensures all { ∥ ((result.taken ≡ length piece.now) ⊎ (length row.old < result.written + least_row)) ∥₁ }
         ensures onward { 0 < length piece.now → least_row ≤ length row.old → 0 < result.taken }
-        ensures heard { (g : Given) (input output : List ℕ) → Heard g input output (hearing self.old) →
-            Heard g (input ++ take result.taken piece.now) (output ++ take result.written row.new) (hearing self.new) }
+        ensures heard { (g : Given) (input output : List ℕ) → Heard g input output (hearing F.W R.content L.content self.old) →
+            Heard g (input ++ take result.taken piece.now) (output ++ take result.written row.new) (hearing F.W R.content L.content self.new) }
     {
         let mut written = 0;
         for (i, b) in piece.iter().enumerate() {
@@ -68,8 +68,8 @@ impl<F: Family + Copy, R: Store, L: Store> Session<F, R, L> {
     pub fn finish(&mut self, row: &mut [u8]) -> Result<usize, Refusal>
         ensures row { RowKept row.old row.new result }
         ensures short { length row.old < least_row → self.new ≡ self.old }
-        ensures over { (g : Given) (input output : List ℕ) → Heard g input output (hearing self.old) →
-            IfOk result (λ n. Over g input (output ++ take n row.new) (hearing self.new)) }
+        ensures over { (g : Given) (input output : List ℕ) → Heard g input output (hearing F.W R.content L.content self.old) →
+            IfOk result (λ n. Over g input (output ++ take n row.new) (hearing F.W R.content L.content self.new)) }
     {
         if row.len() < LEAST_ROW {
             return Err(Refusal::AnswerRow);
@@ -84,8 +84,8 @@ impl<F: Family + Copy, R: Store, L: Store> Session<F, R, L> {
     fn end_line(&mut self, row: &mut [u8]) -> usize
         ensures within { result ≤ length row.old }
         ensures rest { drop result row.new ≡ drop result row.old }
-        ensures heard { (g : Given) (input output : List ℕ) → least_row ≤ length row.old → Heard g input output (hearing self.old) →
-            Heard g (input ++ (10 ∷ [])) (output ++ take result row.new) (hearing self.new) }
+        ensures heard { (g : Given) (input output : List ℕ) → least_row ≤ length row.old → Heard g input output (hearing F.W R.content L.content self.old) →
+            Heard g (input ++ (10 ∷ [])) (output ++ take result row.new) (hearing F.W R.content L.content self.new) }
     {
         let line = mem::replace(&mut self.line, Buffer::empty());
         answer_line(&mut self.engine, line.bytes(), row).unwrap_or(0)

@@ -1,13 +1,11 @@
 // An engine at the end of a stream of text.
 use engine::Engine;
 use line::Buffer;
-use net::Family;
-use store::Store;
 
 // The engine, and the beginning of the line that has not ended yet. What it has heard is no fact of its type: each promise is for every
 // input and output.
 #[derive(Drop)]
-pub struct Session<F: Family, R: Store, L: Store> {
+pub struct Session<F, R, L> {
     pub(super) engine: Engine<F, R, L>,
     pub(super) line: Buffer,
 }

@@ -10,7 +10,7 @@ loop-turn-preserved g c =
     let ts = c.loop-turn.turns in
     let i = c.loop-turn.turn-index in
     let less : i < length ts = subst (λ n. i < n) (sym c.loop-turn.auto.turns) c.loop-turn-test.true in
-    next_turn g.F.Family.row known c.args.turns.now ts i c.loop-turn.invariant.0 c.turn-item.result c.step-turn.result (state c.step-turn.new.self) less
+    next_turn g.F.Family.row known c.args.turns.now ts i c.loop-turn.invariant.0 c.turn-item.result c.step-turn.result (state g.F.Family.W g.R.Store.content g.L.Store.content c.step-turn.new.self) less
     (c.step-turn.ensures known (take i (calls_of g.F.Family.row c.args.turns.now)) (take i (answers_of ts)) c.loop-turn.invariant.1)
 
 pub returns : goal.returns
@@ -21,5 +21,5 @@ returns g c =
     let past : length ts ≤ i = subst (λ n. n ≤ i) (sym c.loop-turn.auto.turns) c.loop-turn-test.false in
     record {
       calls = c.loop-turn.invariant.0;
-      ran = all_turns g.F.Family.row known c.args.turns.now ts i c.loop-turn.invariant.0 (state c.loop-turn.engine) past c.loop-turn.invariant.1;
+      ran = all_turns g.F.Family.row known c.args.turns.now ts i c.loop-turn.invariant.0 (state g.F.Family.W g.R.Store.content g.L.Store.content c.loop-turn.engine) past c.loop-turn.invariant.1;
     }

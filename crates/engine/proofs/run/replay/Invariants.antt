@@ -8,4 +8,5 @@ use Rattle.engine.proofs.run.replay.Given as goal
 abbrev pub invariant-loop-turn : goal.invariant-loop-turn
 invariant-loop-turn g l =
     (calls_of g.F.Family.row l.turns ≡ calls_of g.F.Family.row l.initial.turns)
-    × Ran (given_by g.F.Family.W (g.R.Store.content l.fn.routes) (g.L.Store.content l.fn.leaves)) (take l.turn-index (calls_of g.F.Family.row l.initial.turns)) (take l.turn-index (answers_of l.turns)) (state l.engine)
+    × Ran (given_by g.F.Family.W (g.R.Store.content l.fn.routes) (g.L.Store.content l.fn.leaves)) (take l.turn-index (calls_of g.F.Family.row l.initial.turns)) (take l.turn-index (answers_of l.turns))
+    (state g.F.Family.W g.R.Store.content g.L.Store.content l.engine)

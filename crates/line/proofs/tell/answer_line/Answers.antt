@@ -15,7 +15,7 @@ returns g c = record {
   ill = c.tell.ensures.ill;
   told = λ h ls room t.
       let both = c.tell.ensures.told h ls t in
-      let counted = counted_line h ls c.args.line.now (state c.args.engine.now) t in
+      let counted = counted_line h ls c.args.line.now (state g.F.Family.W g.R.Store.content g.L.Store.content c.args.engine.now) t in
       let small : length (written (answer_of c.tell.result)) ≤ 40 = written_short (answer_of c.tell.result) c.reply-reply.ensures.few (subst (λ (x : Answer). Counted x) both.1 counted) in
       let says : written (answer_of c.tell.result) ≡ written (line_turn h (after_calls h [] (line_calls h.width ls)) c.args.line.now).1 = ap written (sym both.1) in (
         both.0,

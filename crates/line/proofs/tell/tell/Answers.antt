@@ -10,7 +10,7 @@ use Rattle.line.proofs.tell.tell.Goals as goal
 pub returns-in-Ok : goal.returns-in-Ok
 returns-in-Ok g c = record {
   ill = λ why e. absurd (let z : ◌≡◌ {A = ℕ} 0 1 = cc (e, c.in-Ok.ensures) in omega arith);
-  told = λ h ls t. tells_call h ls c.args.line.now (call_of g.F.Family.row c.in-Ok.call) (answer_of c.step.result) (state c.step.new.self)
+  told = λ h ls t. tells_call h ls c.args.line.now (call_of g.F.Family.row c.in-Ok.call) (answer_of c.step.result) (state g.F.Family.W g.R.Store.content g.L.Store.content c.step.new.self)
       (ap (λ W. read_line W c.args.line.now) t.serves.stored.width ∙ c.in-Ok.ensures)
       (c.step.ensures h (line_calls h.width ls) (answers h _ (line_calls h.width ls)) t);
 }
@@ -18,5 +18,5 @@ returns-in-Ok g c = record {
 pub returns-in-Err : goal.returns-in-Err
 returns-in-Err g c = record {
   ill = λ why e. refl;
-  told = λ h ls t. tells_bad h ls c.args.line.now c.in-Err.refusal (state c.args.engine.now) (ap (λ W. read_line W c.args.line.now) t.serves.stored.width ∙ c.in-Err.ensures) t;
+  told = λ h ls t. tells_bad h ls c.args.line.now c.in-Err.refusal (state g.F.Family.W g.R.Store.content g.L.Store.content c.args.engine.now) (ap (λ W. read_line W c.args.line.now) t.serves.stored.width ∙ c.in-Err.ensures) t;
 }

@@ -8,8 +8,8 @@ use Rattle.engine.proofs.engine.Engine.announce.Goals as goal
 
 pub returns-then-is_none : goal.returns-then-is_none
 returns-then-is_none g c = λ given rs serves.
-    let s = state c.args.self.now in
-    let t = state c.enter.new.self in
+    let s = state g.F.Family.W g.R.Store.content g.L.Store.content c.args.self.now in
+    let t = state g.F.Family.W g.R.Store.content g.L.Store.content c.enter.new.self in
     let a = g.F.Family.row c.args.address.now in
     let same = c.in_ok-hop.ensures.1 in
     let good = subst (λ x. bad_hop x ≡ false) (sym same) c.in_ok-hop.ensures.0 in
@@ -19,8 +19,8 @@ returns-then-is_none g c = λ given rs serves.
 
 pub returns : goal.returns
 returns g c = λ given rs serves.
-    let s = state c.args.self.now in
-    let t = state c.set_at.new.self in
+    let s = state g.F.Family.W g.R.Store.content g.L.Store.content c.args.self.now in
+    let t = state g.F.Family.W g.R.Store.content g.L.Store.content c.set_at.new.self in
     let a = g.F.Family.row c.args.address.now in
     let same = c.in_ok-hop.ensures.1 in
     let good = subst (λ x. bad_hop x ≡ false) (sym same) c.in_ok-hop.ensures.0 in

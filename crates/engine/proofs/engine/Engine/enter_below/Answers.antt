@@ -13,7 +13,7 @@ use Rattle.engine.proofs.engine.Engine.enter_below.Goals as goal
 
 pub returns-in_err-check_room : goal.returns-in_err-check_room
 returns-in_err-check_room g c = λ given rs ready room is_leaf over.
-    let s = state c.args.self.now in
+    let s = state g.F.Family.W g.R.Store.content g.L.Store.content c.args.self.now in
     let q = row_of c.args.leaf.now in
     let p = row_of c.args.at.now in
     let ss = entered rs p c.args.hop in
@@ -23,7 +23,7 @@ returns-in_err-check_room g c = λ given rs ready room is_leaf over.
 
 pub returns-in_err-drawn : goal.returns-in_err-drawn
 returns-in_err-drawn g c = λ given rs ready room is_leaf over.
-    let s = state c.args.self.now in
+    let s = state g.F.Family.W g.R.Store.content g.L.Store.content c.args.self.now in
     let q = row_of c.args.leaf.now in
     let p = row_of c.args.at.now in
     let ss = entered rs p c.args.hop in
@@ -31,14 +31,15 @@ returns-in_err-drawn g c = λ given rs ready room is_leaf over.
     let full = c.in_err-drawn.ensures (pushed rs) ready.serves.starts ready.serves.holds in
     let out = err_from_is_err_and c.from_residual-in_err-drawn.result c.from_residual-in_err-drawn.ensures.1 in
     rw (out.1, out.2)
-    (drawn_full given rs ss (room_checks given rs ss) s (state c.grow.new.self) (grown p (pushed rs)) (entering rs p c.args.hop) _ full (no_vertex given rs ss room free) ready.serves)
+    (drawn_full given rs ss (room_checks given rs ss) s (state g.F.Family.W g.R.Store.content g.L.Store.content c.grow.new.self)
+    (grown p (pushed rs)) (entering rs p c.args.hop) _ full (no_vertex given rs ss room free) ready.serves)
 
 pub returns : goal.returns
 returns g c = λ given rs ready room is_leaf over.
-    let s = state c.args.self.now in
-    let s1 = state c.grow.new.self in
-    let s2 = state c.set_below.new.self in
-    let s3 = state c.redraw.new.self in
+    let s = state g.F.Family.W g.R.Store.content g.L.Store.content c.args.self.now in
+    let s1 = state g.F.Family.W g.R.Store.content g.L.Store.content c.grow.new.self in
+    let s2 = state g.F.Family.W g.R.Store.content g.L.Store.content c.set_below.new.self in
+    let s3 = state g.F.Family.W g.R.Store.content g.L.Store.content c.redraw.new.self in
     let q = row_of c.args.leaf.now in
     let p = row_of c.args.at.now in
     let ss = entered rs p c.args.hop in

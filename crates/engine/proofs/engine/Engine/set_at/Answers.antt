@@ -11,6 +11,7 @@ returns-clause-sets g c = λ given rs w node leads.
     let one = c.paint_from.new.self in
     let p = row_of c.args.at.now in
     let routes = g.R.Store.content c.put.new.self in
-    sets_at given rs (state e) e.narrow p routes (g.met.R.Store.sound c.put.new.self) c.args.hop c.args.edge (state one) c.paint_from.result c.put.result
+    sets_at given rs (state g.F.Family.W g.R.Store.content g.L.Store.content e) g.met.F.Family.most p routes (g.met.R.Store.sound c.put.new.self)
+    c.args.hop c.args.edge (state g.F.Family.W g.R.Store.content g.L.Store.content one) c.paint_from.result c.put.result
     (g.met.L.Store.sound one.leaves) w node leads c.paint_from.ensures
     (subst (λ n. Puts p n (g.R.Store.content one.routes) routes c.put.result) c.from.ensures c.put.ensures.puts) c.put.ensures.limits

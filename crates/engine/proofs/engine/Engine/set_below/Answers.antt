@@ -12,8 +12,9 @@ returns-clause-sets g c = λ given rs w is_leaf over leads.
     let p = row_of c.args.at.now in
     let leaves = g.L.Store.content c.put.new.self in
     let routes = g.R.Store.content c.put-2.new.self in
-    sets_below given rs (state e) e.narrow p routes (g.met.R.Store.sound c.put-2.new.self) (row_of c.args.leaf.now) over
-    c.args.hop c.args.start c.descend-spot.result c.remove-had.result (g.L.Store.content c.remove-had.new.self) leaves (state two)
+    sets_below given rs (state g.F.Family.W g.R.Store.content g.L.Store.content e) g.met.F.Family.most p routes
+    (g.met.R.Store.sound c.put-2.new.self) (row_of c.args.leaf.now) over
+    c.args.hop c.args.start c.descend-spot.result c.remove-had.result (g.L.Store.content c.remove-had.new.self) leaves (state g.F.Family.W g.R.Store.content g.L.Store.content two)
     c.paint_from.result c.put.result c.put-2.result
     (g.met.L.Store.sound c.put.new.self) w is_leaf leads c.remove-had.ensures.removes c.remove-had.ensures.limits c.descend-spot.ensures c.paint_from.ensures
     (subst (λ n. Puts p n (g.L.Store.content two.leaves) leaves c.put.result) c.from.ensures c.put.ensures.puts) c.put.ensures.limits

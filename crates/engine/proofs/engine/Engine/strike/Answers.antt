@@ -11,20 +11,21 @@ use Rattle.engine.proofs.engine.Engine.strike.Goals as goal
 
 pub returns-in_err-drawn : goal.returns-in_err-drawn
 returns-in_err-drawn g c = λ given rs ready stands.
-    let s = state c.args.self.now in
+    let s = state g.F.Family.W g.R.Store.content g.L.Store.content c.args.self.now in
     let p = row_of c.args.at.now in
     let ss = struck rs p in
     let full = c.in_err-drawn.ensures (pushed rs) ready.serves.starts ready.serves.holds in
     let out = err_from_is_err_and c.from_residual.result c.from_residual.ensures.1 in
     rw (out.1, out.2)
-    (drawn_full given rs ss (fold_checks rs ss) s (state c.fold.new.self) (pruned (others s.routes.map p) (pushed rs) p) (struck_tree rs p s.routes.map ready.serves.stored.route_hops) _ full (no_fold rs ss) ready.serves)
+    (drawn_full given rs ss (fold_checks rs ss) s (state g.F.Family.W g.R.Store.content g.L.Store.content c.fold.new.self)
+    (pruned (others s.routes.map p) (pushed rs) p) (struck_tree rs p s.routes.map ready.serves.stored.route_hops) _ full (no_fold rs ss) ready.serves)
 
 pub returns : goal.returns
 returns g c = λ given rs ready stands.
-    let s = state c.args.self.now in
-    let s1 = state c.fold.new.self in
-    let s2 = state c.clear.new.self in
-    let s3 = state c.redraw.new.self in
+    let s = state g.F.Family.W g.R.Store.content g.L.Store.content c.args.self.now in
+    let s1 = state g.F.Family.W g.R.Store.content g.L.Store.content c.fold.new.self in
+    let s2 = state g.F.Family.W g.R.Store.content g.L.Store.content c.clear.new.self in
+    let s3 = state g.F.Family.W g.R.Store.content g.L.Store.content c.redraw.new.self in
     let p = row_of c.args.at.now in
     let ss = struck rs p in
     let o = fold_checks rs ss in

@@ -15,7 +15,7 @@ returns g c =
       heard = λ h input output room k.
           let told = c.answer_line.ensures.told h (ended input) room k.told in
           let reply = reply_told c.answer_line.result c.unwrap_or.result (reply_to h (ended input) c.bytes.result.now) c.args.row.now c.answer_line.new.row c.unwrap_or.ensures told.1 in
-          heard_line h input output (hearing c.args.self.now) (record { engine = state c.answer_line.new.engine; line = c.replace-line.new.dest })
+          heard_line h input output (hearing g.F.Family.W g.R.Store.content g.L.Store.content c.args.self.now) (record { engine = state g.F.Family.W g.R.Store.content g.L.Store.content c.answer_line.new.engine; line = c.replace-line.new.dest })
           c.bytes.result.now c.args.row.now c.answer_line.new.row c.unwrap_or.result (c.bytes.ensures ∙ c.replace-line.ensures.value) told.0 reply.0 reply.1
           (c.replace-line.ensures.after ∙ c.empty.ensures) k;
     }
